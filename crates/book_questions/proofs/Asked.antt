@@ -4,21 +4,25 @@ use Rattle.base.specs.Basics.{length, length-drop, take, drop-drop, take-all}
 use Rattle.rules.specs.Areas.{Prices}
 use Rattle.rules.specs.Book.{User, Trade}
 use Rattle.base.specs.Lists.{all}
+use Rattle.rules.specs.Levels.{Limits}
 use Rattle.rules.specs.Questions.{groupsValid, headerValid, managersValid, numberOf, positionsValid, refusal, tradeValid, usersValid}
 use Rattle.base.proofs.Tests.{and-l, and-r, or-r}
-use Rattle.fields.specs.Field.{field}
+use Rattle.fields.specs.Field.{AllBytes, field}
 use Rattle.fields.specs.Layout.{recordsOf}
 use Rattle.book_records.specs.Trade.{tradeOf, tradeZeros}
 use Rattle.book_records.specs.User.{userOf, userZeros}
+use Rattle.book_format.proofs.Held.{accepted-of}
 use Rattle.book_format.proofs.Offsets.{trades-there, user-range, users-end, users-there}
 use Rattle.book_format.specs.Book.{bookOf, headerSize, pricesOf, tradeCount, tradesAt, tradesOf, userCount, userSize, usersOf, versionOf}
-use Rattle.book_format.specs.Questions.{Formed, aboutFields, aboutForm, formNumber, marked, sized, tradeZerosValid, userZerosValid, versioned}
+use Rattle.book_format.specs.Questions.{Formed, aboutFields, aboutForm, bookNumber, formNumber, marked, sized, tradeZerosValid, userZerosValid, versioned}
 use Rattle.book_parties.specs.Ids.{usersFrom, tradesFrom, idsOf}
 use Rattle.book_sums.specs.Sums.{placesOf}
-use Rattle.book_sums.specs.Twelve.{Twelve, TwelveOf, Low}
+use Rattle.book_sums.specs.Twelve.{SumsOf, Twelve, TwelveOf}
 use Rattle.book_sums.proofs.Twelve.{twelve-of}
+use Rattle.units.specs.Limits.{LimitsInRange}
+use Rattle.book_questions.specs.Opened.{Opened, OpenedParties}
 use Rattle.book_questions.specs.Zeros.{tradeZerosIn, userZerosIn, zerosIn}
-use Rattle.book_questions.specs.Asked.{allValid, UsersAsked, TradesAsked, RecordsIn, RecordsAsked, FieldsPlaced, AskedOf, Summed, SumsFound, PartiesFound, pastFive, pastSix, tradesRead, leading, tradeAmong, recordsNumber, fieldsNumber}
+use Rattle.book_questions.specs.Asked.{allValid, UsersAsked, TradesAsked, RecordsIn, RecordsAsked, FieldsPlaced, AskedOf, Summed, pastFive, pastSix, tradesRead, leading, tradeAmong, recordsNumber, fieldsNumber}
 use Rattle.book_questions.proofs.Known.{all-tradeAmong, all-parties, tradeAmong-valid, valid-rising}
 use Rattle.book_questions.proofs.Loops.{leading-same}
 
@@ -30,8 +34,7 @@ unfolding tradesRead pastFive
 summed-none {us} {ts} number h =
     record {
       counted = go (pastFive number) (leading (tradeValid us) ts) h;
-      twelve = λ p. absurd (h (or-r (eqb number 6) (pastSix number) p));
-      low = λ p. absurd (h (or-r (eqb number 6) (pastSix number) p));
+      sums-are = λ p. absurd (h (or-r (eqb number 6) (pastSix number) p));
       all-read = λ p. absurd (h (or-r (eqb number 6) (pastSix number) p));
     }
   where
@@ -41,9 +44,9 @@ summed-none {us} {ts} number h =
 
 -- where no question refuses, the sums are what each user sold and bought
 pub sums-told : {us : List User} {ts : List Trade} {count number read : ℕ} {sums : List ℕ} → Summed us ts count number read sums → number ≡ 0
-    → TwelveOf us ts sums × Low sums
+    → SumsOf us ts sums
 unfolding pastSix
-sums-told {number = number} summed e = let past : T (pastSix number) = past-none e in (summed .twelve past, summed .low past)
+sums-told {number = number} summed e = summed .sums-are (past-none e)
   where
     past-none : {k : ℕ} → k ≡ 0 → T (pastSix k)
     past-none h = rw h tt
@@ -86,7 +89,7 @@ module _ (version : ℕ) (userZeros : Bool) {us : List User} {ts : List Trade} {
     -- nothing is then told of the sums
     pub summed-6 : {count : ℕ} → Summed us ts count 6 read sums
     unfolding pastSix pastFive
-    summed-6 = record { counted = records-read 6 refl; twelve = λ p. absurd p; low = λ p. absurd p; all-read = λ p. absurd p }
+    summed-6 = record { counted = records-read 6 refl; sums-are = λ p. absurd p; all-read = λ p. absurd p }
 
     module _ (t : allowed ≡ true) where
       -- it is yes: they are told, whatever question 7 gives
@@ -94,8 +97,7 @@ module _ (version : ℕ) (userZeros : Bool) {us : List User} {ts : List Trade} {
       records-summed {count} number e all =
           record {
             counted = records-read number e;
-            twelve = λ p. records-sums (rw t tt);
-            low = λ p. record { low = trades .twelve (rw t tt) .low };
+            sums-are = λ p. record { twelve = records-sums (rw t tt); low = record { low = trades .twelve (rw t tt) .low } };
             all-read = λ p. trades .whole (rw t tt) ∙ all;
           }
 
@@ -210,11 +212,24 @@ form-before s e h = go (marked s) (versioned s) (sized s) e h
     go true false c e h t = rw e at t
     go false b c e h t = rw e at t
 
--- ---- what a call is handed, by a number that is 0 only where no question refuses
+-- ---- what a call is handed where no question refuses
 
-module _ {s : List ℕ} {count k read number : ℕ} {sums : List ℕ} (told : Summed (usersOf s) (tradesOf s) count k read sums) (passes : number ≡ 0 → k ≡ 0) where
-  pub sums-found : SumsFound s number sums
-  sums-found = record { twelve = λ e. sums-told told (passes e) .0; low = λ e. sums-told told (passes e) .1 }
+module _ {s : List ℕ} {k : ℕ} {sellers buyers : List ℕ} (asked : AskedOf s k sellers buyers) (bytes : AllBytes s) (passes : bookNumber s ≡ 0) (long : length sellers ≡ 256) (wide : length buyers ≡ 256) where
+  pub parties-opened : OpenedParties s sellers buyers
+  parties-opened =
+      record {
+        passes = passes;
+        book = record { accepted = accepted-of s bytes passes; placed = asked .placed (asked .number ∙ passes) };
+        sellers-room = long;
+        buyers-room = wide;
+      }
 
-  pub parties-found : {sellers buyers : List ℕ} → AskedOf s k sellers buyers → PartiesFound s number sellers buyers sums
-  parties-found asked = record { placed = λ e. asked .placed (passes e); summed = sums-found }
+  pub book-opened : {limits : Limits} {count read : ℕ} {sums : List ℕ} → Summed (usersOf s) (tradesOf s) count k read sums → LimitsInRange limits → Opened limits s sellers buyers sums
+  book-opened told figures =
+      record {
+        summed = record {
+          figures = record { passes = passes; accepted = accepted-of s bytes passes; limits-in = figures };
+          sums-are = sums-told told (asked .number ∙ passes);
+        };
+        parties = parties-opened;
+      }

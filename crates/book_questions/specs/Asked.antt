@@ -8,7 +8,7 @@ use Rattle.book_format.specs.Book.{userSize, usersOf, tradesOf}
 use Rattle.book_format.specs.Questions.{aboutFields, bookNumber}
 use Rattle.book_parties.specs.Ids.{idsOf, among, usersFrom, Padded, Guesses, Placed}
 use Rattle.book_sums.specs.Sums.{placesOf}
-use Rattle.book_sums.specs.Twelve.{Twelve, TwelveOf, Low}
+use Rattle.book_sums.specs.Twelve.{SumsOf, Twelve}
 
 -- ---- one question
 
@@ -79,8 +79,7 @@ tradesRead us ts number = cond (pastFive number) (leading (tradeValid us) ts) 0
 -- user's twelve sums are 01's, and as many trades were read as there are
 pub record Summed (us : List User) (ts : List Trade) (count number read : ℕ) (sums : List ℕ) : Type 0 where
   pub counted : read ≡ tradesRead us ts number
-  pub twelve : T (pastSix number) → TwelveOf us ts sums
-  pub low : T (pastSix number) → Low sums
+  pub sums-are : T (pastSix number) → SumsOf us ts sums
   pub all-read : T (pastSix number) → read ≡ count
 
 -- ---- 5 to 7
@@ -125,15 +124,3 @@ pub record FieldsPlaced (s : List ℕ) (number : ℕ) (sellers buyers : List ℕ
 pub record AskedOf (s : List ℕ) (r : ℕ) (sellers buyers : List ℕ) : Type 0 where
   pub number : r ≡ bookNumber s
   pub placed : r ≡ 0 → Placed (usersOf s) (tradesOf s) sellers buyers
-
--- ---- what a call is handed with the number of its opening questions, which is 0 only where 1 to 7 refuse nothing
-
--- where the number is 0, the sums are what each user sold and bought
-pub record SumsFound (s : List ℕ) (number : ℕ) (sums : List ℕ) : Type 0 where
-  pub twelve : number ≡ 0 → TwelveOf (usersOf s) (tradesOf s) sums
-  pub low : number ≡ 0 → Low sums
-
--- and the places are those of the trades' parties
-pub record PartiesFound (s : List ℕ) (number : ℕ) (sellers buyers sums : List ℕ) : Type 0 where
-  pub placed : number ≡ 0 → Placed (usersOf s) (tradesOf s) sellers buyers
-  pub summed : SumsFound s number sums

@@ -40,3 +40,8 @@ pub record TwelveOf (us : List User) (ts : List Trade) (sums : List ℕ) : Type 
 -- no sum is above what 256 trades can have, 100,000 MWh each
 pub record Low (sums : List ℕ) : Type 0 where
   pub low : (k : ℕ) → getD sums k 0 ≤ 25600000
+
+-- the sums of users by trades, none of them too high
+pub record SumsOf (us : List User) (ts : List Trade) (sums : List ℕ) : Type 0 where
+  pub twelve : TwelveOf us ts sums
+  pub low : Low sums

@@ -2,7 +2,6 @@
 use Rattle.base.specs.Basics.{_≡_, refl, sym, ap, _∙_, Bool, cond, true, false, List, [], _∷_, ℕ, zero, suc, arith, T}
 use Rattle.book_format.specs.After.{after}
 use Rattle.book_format.specs.Questions.{bookNumber}
-use Rattle.book_questions.specs.Asked.{PartiesFound}
 use Rattle.log_format.specs.Fits.{aboutLog, logFits, logNumber}
 use Rattle.requests.proofs.Lines.{fit-number}
 use Rattle.requests.proofs.Opened.{first-zero, opening-zero}
@@ -63,11 +62,3 @@ lines-with n g v {s = s} {l} lent e a k =
 -- it passes the questions of the book where none refuses
 pub list-entered : (actor : Party) (m : Matter) (g : Setting) (fits : Bool) (s : List ℕ) {number : ℕ} → number ≡ opening (firstOf (enteringNumber actor m s) (cond fits 0 15)) g s → number ≡ 0 → bookNumber s ≡ 0
 list-entered actor m g fits s e z = entering-book actor m s (first-zero _ (cond fits 0 15) (opening-zero _ g s (sym e ∙ z)))
-
--- what was found where no question refuses is there where 19 does not either
-pub parties-with : {s l : List ℕ} {asked number : ℕ} {lent : Bool} {sellers buyers sums : List ℕ} → LogAsked asked lent l s number → PartiesFound s asked sellers buyers sums → PartiesFound s number sellers buyers sums
-parties-with k f =
-    record {
-      placed = λ z. f .placed (k .before z);
-      summed = record { twelve = λ z. f .summed .twelve (k .before z); low = λ z. f .summed .low (k .before z) };
-    }

@@ -12,13 +12,12 @@ ghost use mathlib.Core.List.{[], _∷_};
 ghost use mathlib.Core.Path.{_≡_};
 ghost use Prim.Native.Nat.{_*_, _/_, _%_, _≤_, _<_};
 ghost use lib.Dec.{eqb, ltb};
-ghost use lib.ListN.{getD, length, replicate};
+ghost use lib.ListN.{getD, replicate};
 ghost use Rattle.book_format.specs.After.{after};
 ghost use Rattle.book_format.specs.Book.{bookOf, tradeCount, tradesAt, tradesOf, userCount, usersOf};
 ghost use Rattle.book_format.specs.Places.{TradeIn};
-ghost use Rattle.book_format.specs.Questions.{bookNumber};
-ghost use Rattle.units.specs.Limits.{asLimits, LimitsInRange};
-ghost use Rattle.book_questions.specs.Asked.{PartiesFound};
+ghost use Rattle.units.specs.Limits.{asLimits};
+ghost use Rattle.book_questions.specs.Opened.{Opened};
 ghost use Rattle.requests.specs.Cancellation.{cancellationAfter, triesInRange};
 ghost use Rattle.rules.specs.Areas.{tariff};
 ghost use Rattle.rules.specs.Book.{bilateralForDay, noTrade, nobody};
@@ -66,13 +65,13 @@ fn fill_worths(
     book: &[u8],
     at: usize,
     m: usize,
-    sellers: &[u8; 256],
-    buyers: &[u8; 256],
+    bearing_sellers: &[u8; 256],
+    bearing_buyers: &[u8; 256],
     place: usize,
     prices: Prices,
     worths: &mut [u64; 256],
 ) -> usize
-    requires { ⌜ Selling at m (now book) (now sellers) (now buyers) place × (now worths ≡ replicate 256 0) ⌝ }
+    requires { ⌜ Selling at m (now book) (now «bearing_sellers») (now «bearing_buyers») place × (now worths ≡ replicate 256 0) ⌝ }
     requires { ⌜ InRange (asPrices prices) × (asPrices prices ≡ bookOf (now book) .header .prices) ⌝ }
     ensures { λ r. ⌜ Worths (bookOf (now (book .entry))) (getD (usersOf (now (book .entry))) place nobody) r (now (worths .exit)) ⌝ }
 {
@@ -80,7 +79,10 @@ fn fill_worths(
     let mut i = 0;
     while i < m {
         worths[k] = worth_at(book, at, i, prices);
-        k = cut_lists::place_after(k, eligible_at(book, at, i, sellers[i], buyers[i], place));
+        k = cut_lists::place_after(
+            k,
+            eligible_at(book, at, i, bearing_sellers[i], bearing_buyers[i], place),
+        );
         i += 1;
     }
     k
@@ -110,12 +112,12 @@ fn marks_of(
     book: &[u8],
     at: usize,
     m: usize,
-    sellers: &[u8; 256],
-    buyers: &[u8; 256],
+    bearing_sellers: &[u8; 256],
+    bearing_buyers: &[u8; 256],
     place: usize,
     left: usize,
 ) -> [bool; 256]
-    requires { ⌜ Selling at m (now book) (now sellers) (now buyers) place × (left < setsOf (bookOf (now book)) (getD (usersOf (now book)) place nobody)) ⌝ }
+    requires { ⌜ Selling at m (now book) (now «bearing_sellers») (now «bearing_buyers») place × (left < setsOf (bookOf (now book)) (getD (usersOf (now book)) place nobody)) ⌝ }
     ensures { λ r. ⌜ r ≡ unmarked (bookOf (now (book .entry))) (getD (usersOf (now (book .entry))) place nobody) left ⌝ }
 {
     let mut marks = [false; 256];
@@ -123,7 +125,7 @@ fn marks_of(
     let mut i = m;
     while 0 < i {
         i -= 1;
-        let eligible = eligible_at(book, at, i, sellers[i], buyers[i], place);
+        let eligible = eligible_at(book, at, i, bearing_sellers[i], bearing_buyers[i], place);
         marks[i] = is_marked(eligible, rest);
         rest = left_before(eligible, rest);
     }
@@ -138,20 +140,29 @@ fn cancel_among(
     book: &[u8],
     at: usize,
     m: usize,
-    sellers: &[u8; 256],
-    buyers: &[u8; 256],
+    bearing_sellers: &[u8; 256],
+    bearing_buyers: &[u8; 256],
     place: usize,
     asked: Cents,
     prices: Prices,
     tries: u32,
     worths: &mut [u64; 256],
 ) -> CancellationAnswer
-    requires { ⌜ Selling at m (now book) (now sellers) (now buyers) place × (now worths ≡ replicate 256 0) ⌝ }
+    requires { ⌜ Selling at m (now book) (now «bearing_sellers») (now «bearing_buyers») place × (now worths ≡ replicate 256 0) ⌝ }
     requires { ⌜ InRange (asPrices prices) × (asPrices prices ≡ bookOf (now book) .header .prices) ⌝ }
     requires { ⌜ (0 < tries) × (tries < 65536) ⌝ }
     ensures { λ r. ⌜ cancellationOf r ≡ onSales (bookOf (now (book .entry))) (getD (usersOf (now (book .entry))) place nobody) (asked .0) tries ⌝ }
 {
-    let count = fill_worths(book, at, m, sellers, buyers, place, prices, worths);
+    let count = fill_worths(
+        book,
+        at,
+        m,
+        bearing_sellers,
+        bearing_buyers,
+        place,
+        prices,
+        worths,
+    );
     if count == 0 {
         return CancellationAnswer::refused(14);
     }
@@ -160,7 +171,15 @@ fn cancel_among(
         return CancellationAnswer::refused(24);
     }
     let found = cut_sets::search(worths, count, together, asked.0, tries as usize);
-    let marks = marks_of(book, at, m, sellers, buyers, place, found.left);
+    let marks = marks_of(
+        book,
+        at,
+        m,
+        bearing_sellers,
+        bearing_buyers,
+        place,
+        found.left,
+    );
     CancellationAnswer {
         number: 0,
         marks: marks,
@@ -173,14 +192,14 @@ fn cancel_among(
 // Asks the questions 14 and 24 of the user at a place and cancels whole trades for an amount.
 fn cancel_sales(
     book: &[u8],
-    sellers: &[u8; 256],
-    buyers: &[u8; 256],
+    bearing_sellers: &[u8; 256],
+    bearing_buyers: &[u8; 256],
     place: usize,
     asked: Cents,
     prices: Prices,
     tries: u32,
 ) -> CancellationAnswer
-    requires { ⌜ Selling (tradesAt (now book)) (tradeCount (now book)) (now book) (now sellers) (now buyers) place ⌝ }
+    requires { ⌜ Selling (tradesAt (now book)) (tradeCount (now book)) (now book) (now «bearing_sellers») (now «bearing_buyers») place ⌝ }
     requires { ⌜ InRange (asPrices prices) × (asPrices prices ≡ bookOf (now book) .header .prices) ⌝ }
     requires { ⌜ (0 < tries) × (tries < 65536) ⌝ }
     ensures { λ r. ⌜ cancellationOf r ≡ onSales (bookOf (now (book .entry))) (getD (usersOf (now (book .entry))) place nobody) (asked .0) tries ⌝ }
@@ -193,8 +212,8 @@ fn cancel_sales(
         book,
         at,
         m,
-        sellers,
-        buyers,
+        bearing_sellers,
+        bearing_buyers,
         place,
         asked,
         prices,
@@ -206,22 +225,22 @@ fn cancel_sales(
 // Asks the questions 9, 11, 13, 14 and 24 of the user at a place and cancels whole trades for its target.
 fn cancel_user(
     book: &[u8],
-    sellers: &[u8; 256],
-    buyers: &[u8; 256],
+    bearing_sellers: &[u8; 256],
+    bearing_buyers: &[u8; 256],
     sums: &[u32; 768],
     place: usize,
     day: Day,
     tries: u32,
 ) -> CancellationAnswer
-    requires { ⌜ Runnable (asLimits (day .limits)) (asPrices (day .prices)) (now book) (now sellers) (now buyers) (now sums) × (place < userCount (now book)) ⌝ }
+    requires { ⌜ Runnable (asLimits (day .limits)) (asPrices (day .prices)) (now book) (now «bearing_sellers») (now «bearing_buyers») (now sums) × (place < userCount (now book)) ⌝ }
     requires { ⌜ (0 < tries) × (tries < 65536) ⌝ }
     ensures { λ r. ⌜ cancellationOf r ≡ onUser (asLimits (day .limits)) (bookOf (now (book .entry))) (getD (usersOf (now (book .entry))) place nobody) tries ⌝ }
 {
     let mut positions = [0u32; 192];
     let shortfall = call_questions::shortfall_at(
         book,
-        sellers,
-        buyers,
+        bearing_sellers,
+        bearing_buyers,
         sums,
         &mut positions,
         place,
@@ -232,7 +251,15 @@ fn cancel_user(
         return CancellationAnswer::refused(number);
     }
     let target = shortfall.target;
-    cancel_sales(book, sellers, buyers, place, target, day.prices, tries)
+    cancel_sales(
+        book,
+        bearing_sellers,
+        bearing_buyers,
+        place,
+        target,
+        day.prices,
+        tries,
+    )
 }
 
 // Question 25, after the opening questions: their number where one is answered by no.
@@ -263,10 +290,7 @@ pub fn cancellation(
     id: u32,
     tries: u32,
 ) -> CancellationAnswer
-    requires { ⌜ (number ≡ 0 → bookNumber (now book) ≡ 0) ⌝ }
-    requires { ⌜ LimitsInRange (asLimits limits) ⌝ }
-    requires { ⌜ (length (now sellers) ≡ 256) × (length (now buyers) ≡ 256) ⌝ }
-    requires { ⌜ PartiesFound (now book) number (now sellers) (now buyers) (now sums) ⌝ }
+    requires { ⌜ (number ≡ 0 → Opened (asLimits limits) (now book) (now sellers) (now buyers) (now sums)) ⌝ }
     ensures { λ r. ⌜ cancellationOf r ≡ cancellationAfter number (asLimits limits) (now (book .entry)) id tries ⌝ }
 {
     let entry = call_entry::seek(book, ask_tries(number, tries), id);

@@ -10,18 +10,16 @@ ghost use mathlib.Core.Bool.{true};
 ghost use mathlib.Core.Path.{_≡_};
 ghost use Prim.Native.Nat.{_<_};
 ghost use lib.ListN.{getD};
-ghost use Rattle.units.specs.Limits.{asLimits, LimitsInRange};
+ghost use Rattle.units.specs.Limits.{asLimits};
 ghost use Rattle.book_records.specs.User.{alone, asAmounts, asUser};
 ghost use Rattle.book_format.specs.After.{CalledAfter};
 ghost use Rattle.book_format.specs.Book.{bookOf, userCount, usersOf};
 ghost use Rattle.risk_bearers.specs.Bearers.{BorneIn, usersIn};
 ghost use Rattle.risk_members.specs.Members.{HoldingsOf};
 ghost use Rattle.rules.specs.Book.{nobody};
-ghost use Rattle.book_format.specs.Held.{Accepted};
 ghost use Rattle.book_format.specs.Places.{UserIn};
-ghost use Rattle.book_format.specs.Questions.{bookNumber};
 ghost use Rattle.call_answers.specs.Call.{answerOf};
-ghost use Rattle.book_questions.specs.Asked.{PartiesFound};
+ghost use Rattle.book_questions.specs.Opened.{Opened, OpenedFigures};
 ghost use Rattle.call_guarantee.specs.Times.{dueOf, callOf};
 ghost use Rattle.call_guarantee.specs.Raised.{calledAt, raised};
 
@@ -30,8 +28,8 @@ ghost use Rattle.call_guarantee.specs.Raised.{calledAt, raised};
 // risk is borne?
 fn is_due(
     book: &[u8],
-    sellers: &[u8; 256],
-    buyers: &[u8; 256],
+    bearing_sellers: &[u8; 256],
+    bearing_buyers: &[u8; 256],
     place: usize,
     user: User,
     position: [Net; 3],
@@ -39,7 +37,7 @@ fn is_due(
     level: Cents,
     afternoon: bool,
 ) -> bool
-    requires { ⌜ Accepted (now book) × (afternoon ≡ true → BorneIn (now book) (now sellers) (now buyers)) × (place < userCount (now book)) × (bookNumber (now book) ≡ 0) × LimitsInRange (asLimits limits) ⌝ }
+    requires { ⌜ OpenedFigures (asLimits limits) (now book) × (afternoon ≡ true → BorneIn (now book) (now «bearing_sellers») (now «bearing_buyers»)) × (place < userCount (now book)) ⌝ }
     requires { ⌜ (asUser user ≡ alone (getD (usersOf (now book)) place nobody)) × (asAmounts position ≡ getD (usersIn (now book)) place nobody .position) ⌝ }
     ensures { λ r. ⌜ r ≡ dueOf afternoon (asLimits limits) (bookOf (now (book .entry))) (level .0) (getD (usersOf (now (book .entry))) place nobody) ⌝ }
 {
@@ -51,7 +49,7 @@ fn is_due(
         let prices = book_header::read_prices(book);
         let n = book_format::user_count(book) as usize;
         let m = book_format::trade_count(book) as usize;
-        let below_notified = cut_parties::below_notified_at(book, n, m, sellers, buyers, place);
+        let below_notified = cut_parties::below_notified_at(book, n, m, bearing_sellers, bearing_buyers, place);
         return risk_levels::called_in(limits, prices, blocked, position, below_notified);
     }
     true
@@ -86,15 +84,15 @@ fn raise(book: &mut [u8], place: usize, user: User, level: Cents, due: bool) -> 
 // places of those who bear the risk of the trades' parties.
 fn call_at(
     book: &mut [u8],
-    sellers: &[u8; 256],
-    buyers: &[u8; 256],
+    bearing_sellers: &[u8; 256],
+    bearing_buyers: &[u8; 256],
     place: usize,
     user: User,
     holdings: Holdings,
     limits: Limits,
     afternoon: bool,
 ) -> CallAnswer
-    requires { ⌜ Accepted (now book) × (afternoon ≡ true → BorneIn (now book) (now sellers) (now buyers)) × (place < userCount (now book)) × (bookNumber (now book) ≡ 0) × LimitsInRange (asLimits limits) ⌝ }
+    requires { ⌜ OpenedFigures (asLimits limits) (now book) × (afternoon ≡ true → BorneIn (now book) (now «bearing_sellers») (now «bearing_buyers»)) × (place < userCount (now book)) ⌝ }
     requires { ⌜ (asUser user ≡ alone (getD (usersOf (now book)) place nobody)) × HoldingsOf (now book) place holdings ⌝ }
     ensures { λ r. ⌜ answerOf r ≡ calledAt afternoon (asLimits limits) (now (book .entry)) place .answer ⌝ }
     ensures { λ _. ⌜ now (book .exit) ≡ calledAt afternoon (asLimits limits) (now (book .entry)) place .bytes ⌝ }
@@ -109,8 +107,8 @@ fn call_at(
     let level = call_level::level_of(book, place, user, holdings, limits, afternoon);
     let due = is_due(
         book,
-        sellers,
-        buyers,
+        bearing_sellers,
+        bearing_buyers,
         place,
         user,
         position,
@@ -133,9 +131,7 @@ pub fn call(
     id: u32,
     afternoon: bool,
 ) -> CallAnswer
-    requires { ⌜ (number ≡ 0 → bookNumber (now book) ≡ 0) ⌝ }
-    requires { ⌜ LimitsInRange (asLimits limits) ⌝ }
-    requires { ⌜ PartiesFound (now book) number (now sellers) (now buyers) (now sums) ⌝ }
+    requires { ⌜ (number ≡ 0 → Opened (asLimits limits) (now book) (now sellers) (now buyers) (now sums)) ⌝ }
     ensures { λ r. ⌜ CalledAfter number (asLimits limits) (now (book .entry)) (callOf afternoon id) (answerOf r) (now (book .exit)) ⌝ }
 {
     let entry = call_entry::seek(book, number, id);

@@ -5,17 +5,16 @@ use risk_holdings::Holdings;
 use units::Cents;
 use units::Limits;
 ghost use mathlib.Core.Path.{_≡_};
-ghost use Rattle.units.specs.Limits.{asLimits, LimitsInRange};
+ghost use Rattle.units.specs.Limits.{asLimits};
 ghost use lib.ListN.{getD};
 ghost use Rattle.rules.specs.Book.{nobody};
 ghost use Rattle.book_records.specs.User.{alone, asUser};
 ghost use Prim.Native.Nat.{_<_};
 ghost use Rattle.book_format.specs.Book.{bookOf, userCount, usersOf};
 ghost use Rattle.book_format.specs.After.{replyAfter};
-ghost use Rattle.book_format.specs.Questions.{bookNumber};
 ghost use Rattle.call_answers.specs.Level.{replyOf};
 ghost use Rattle.risk_members.specs.Members.{HoldingsOf};
-ghost use Rattle.book_questions.specs.Asked.{PartiesFound};
+ghost use Rattle.book_questions.specs.Opened.{OpenedFigures, OpenedSums};
 ghost use Rattle.call_level.specs.Times.{levelOf, queryOf};
 
 // The level of the user whose record was read at a place, the afternoon's or the morning's, by what it holds as its risk is borne.
@@ -27,7 +26,7 @@ pub fn level_of(
     limits: Limits,
     afternoon: bool,
 ) -> Cents
-    requires { ⌜ (bookNumber (now book) ≡ 0) × (place < userCount (now book)) × LimitsInRange (asLimits limits) ⌝ }
+    requires { ⌜ OpenedFigures (asLimits limits) (now book) × (place < userCount (now book)) ⌝ }
     requires { ⌜ (asUser user ≡ alone (getD (usersOf (now book)) place nobody)) × HoldingsOf (now book) place holdings ⌝ }
     ensures { λ r. ⌜ r .0 ≡ levelOf afternoon (asLimits limits) (bookOf (now (book .entry))) (getD (usersOf (now (book .entry))) place nobody) ⌝ }
 {
@@ -39,21 +38,16 @@ pub fn level_of(
     risk_levels::morning_level(limits, prices, charges, holdings)
 }
 
-// The level of the user of an id, at one time of the day, after the opening questions, whose number is given with the places of the trades'
-// parties and the sums of the users.
+// The level of the user of an id, at one time of the day, after the opening questions, whose number is given with the sums of the users.
 pub fn level(
     book: &[u8],
     number: u32,
     limits: Limits,
-    sellers: &[u8; 256],
-    buyers: &[u8; 256],
-    sums: &mut [u32; 768],
+    sums: &[u32; 768],
     id: u32,
     afternoon: bool,
 ) -> LevelAnswer
-    requires { ⌜ (number ≡ 0 → bookNumber (now book) ≡ 0) ⌝ }
-    requires { ⌜ LimitsInRange (asLimits limits) ⌝ }
-    requires { ⌜ PartiesFound (now book) number (now sellers) (now buyers) (now sums) ⌝ }
+    requires { ⌜ (number ≡ 0 → OpenedSums (asLimits limits) (now book) (now sums)) ⌝ }
     ensures { λ r. ⌜ replyOf r ≡ replyAfter number (asLimits limits) (now (book .entry)) (queryOf afternoon id) ⌝ }
 {
     let entry = call_entry::seek(book, number, id);

@@ -11,9 +11,8 @@ ghost use mathlib.Core.Bool.{cond};
 ghost use mathlib.Core.Path.{_≡_};
 ghost use Prim.Native.Nat.{suc};
 ghost use lib.Dec.{T};
-ghost use lib.ListN.{length};
 ghost use Rattle.book_parties.specs.Ids.{BookIn};
-ghost use Rattle.book_questions.specs.Asked.{PartiesFound};
+ghost use Rattle.book_questions.specs.Opened.{Opened, OpenedParties};
 ghost use Rattle.log_format.specs.Fits.{logFits};
 ghost use Rattle.log_format.specs.Log.{entryCount};
 ghost use Rattle.call_answers.specs.Run.{answerOf};
@@ -22,8 +21,8 @@ ghost use Rattle.cut_worth.specs.Totals.{totals};
 ghost use Rattle.rules.specs.Calls.{ofRun, only};
 ghost use Rattle.requests.specs.Logged.{GivesLogged};
 ghost use Rattle.requests.specs.Request.{asBytes, loggedAfter, withdrawalAfter};
-ghost use Rattle.units.specs.Limits.{asLimits, LimitsInRange};
-ghost use Rattle.call_logged.specs.Given.{Opened, numbered};
+ghost use Rattle.units.specs.Limits.{asLimits};
+ghost use Rattle.call_logged.specs.Given.{numbered};
 ghost use Rattle.call_logged.specs.Withdrawal.{withdrawalOf};
 
 // ---- a run
@@ -61,10 +60,8 @@ pub fn run(
     sums: &mut [u32; 768],
     log: &mut [u8],
 ) -> RunAnswer
-    requires { ⌜ Opened number (now book) (now log) ⌝ }
-    requires { ⌜ LimitsInRange (asLimits limits) ⌝ }
-    requires { ⌜ (length (now sellers) ≡ 256) × (length (now buyers) ≡ 256) ⌝ }
-    requires { ⌜ PartiesFound (now book) number (now sellers) (now buyers) (now sums) ⌝ }
+    requires { ⌜ (number ≡ 0 → Opened (asLimits limits) (now book) (now sellers) (now buyers) (now sums)) ⌝ }
+    requires { ⌜ (number ≡ 0 → T (logFits (now log) (now book))) ⌝ }
     ensures { λ r. ⌜ GivesLogged (loggedAfter asBytes number (asLimits limits) (now (log .entry)) (now (book .entry)) runCall) (answerOf r) (now (book .exit)) (now (log .exit)) ⌝ }
 {
     if number != 0 {
@@ -139,11 +136,11 @@ fn withdrawn(tally: Tally) -> WithdrawalAnswer
 fn withdraw_last(
     book: &mut [u8],
     sellers: &[u8; 256],
-    parties: &[u8; 256],
+    buyers: &[u8; 256],
     log: &mut [u8],
     place: usize,
 ) -> WithdrawalAnswer
-    requires { ⌜ BookIn (now book) (now sellers) (now parties) × T (logFits (now log) (now book)) × (entryCount (now log) ≡ suc place) ⌝ }
+    requires { ⌜ BookIn (now book) (now sellers) (now buyers) × T (logFits (now log) (now book)) × (entryCount (now log) ≡ suc place) ⌝ }
     ensures { λ r. ⌜ GivesLogged (withdrawalAfter asBytes 0 (now (log .entry)) (now (book .entry))) (withdrawalOf r) (now (book .exit)) (now (log .exit)) ⌝ }
 {
     let n = book_format::user_count(book) as usize;
@@ -152,7 +149,7 @@ fn withdraw_last(
     let prices = book_header::read_prices(book);
     let from = log_questions::entry_offset(place);
     let tally = log_withdrawal::tally(book, at, m, &log[from..from + 1024], prices);
-    log_withdrawal::give_back(book, at, m, sellers, parties, &log[from..from + 1024]);
+    log_withdrawal::give_back(book, at, m, sellers, buyers, &log[from..from + 1024]);
     log_entries::drop_entry(log, place);
     log_entries::seal(log, book, place as u32);
     withdrawn(tally)
@@ -164,12 +161,11 @@ pub fn withdrawal(
     book: &mut [u8],
     number: u32,
     sellers: &[u8; 256],
-    parties: &[u8; 256],
-    sums: &[u32; 768],
+    buyers: &[u8; 256],
     log: &mut [u8],
 ) -> WithdrawalAnswer
-    requires { ⌜ Opened number (now book) (now log) ⌝ }
-    requires { ⌜ PartiesFound (now book) number (now sellers) (now parties) (now sums) ⌝ }
+    requires { ⌜ (number ≡ 0 → OpenedParties (now book) (now sellers) (now buyers)) ⌝ }
+    requires { ⌜ (number ≡ 0 → T (logFits (now log) (now book))) ⌝ }
     ensures { λ r. ⌜ GivesLogged (withdrawalAfter asBytes number (now (log .entry)) (now (book .entry))) (withdrawalOf r) (now (book .exit)) (now (log .exit)) ⌝ }
 {
     if number != 0 {
@@ -179,5 +175,5 @@ pub fn withdrawal(
     if count == 0 {
         return not_withdrawn(18);
     }
-    withdraw_last(book, sellers, parties, log, count - 1)
+    withdraw_last(book, sellers, buyers, log, count - 1)
 }

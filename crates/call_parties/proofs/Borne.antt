@@ -4,7 +4,7 @@ use Rattle.book_format.proofs.Passed.{length-usersOf}
 use Rattle.book_format.specs.Book.{bookOf, tradesOf, usersOf, versionOf}
 use Rattle.book_format.specs.Held.{Accepted}
 use Rattle.book_parties.specs.Ids.{BookIn, Placed, idsOf, placeIn}
-use Rattle.book_sums.specs.Twelve.{TwelveOf}
+use Rattle.book_sums.specs.Twelve.{SumsOf, TwelveOf}
 use Rattle.laws_sales.proofs.Alone.{own-risk}
 use Rattle.laws_sales.specs.Borne.{borneBook, borneUser}
 use Rattle.risk_bearers.proofs.Borne.{id-in, length-usersIn}
@@ -29,9 +29,9 @@ module _ (s : List ℕ) (a : Accepted s) (none : managersIn (versionOf s) ≡ fa
   pub plain-copied : {sellers buyers xs ys : List ℕ} → BookIn s sellers buyers → xs ≡ sellers → ys ≡ buyers → BorneIn s xs ys
   plain-copied b e f = rw (e, f) (plain-in b)
 
-  pub plain-sums : {sums : List ℕ} → TwelveOf (usersOf s) (tradesOf s) sums → TwelveOf (usersIn s) (tradesIn s) sums
+  pub plain-sums : {sums : List ℕ} → SumsOf (usersOf s) (tradesOf s) sums → SumsOf (usersIn s) (tradesIn s) sums
   unfolding bookOf
-  plain-sums {sums} w = subst (λ (x : Book). TwelveOf (x .users) (x .trades) sums) alone w
+  plain-sums {sums} w = subst (λ (x : Book). SumsOf (x .users) (x .trades) sums) alone w
 
 module _ (s : List ℕ) (a : Accepted s) {sellers buyers sums : List ℕ} (p : SummedAt (usersOf s) (tradesIn s) sellers buyers sums) where
   pub managed-in : BorneIn s sellers buyers

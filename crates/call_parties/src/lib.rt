@@ -5,7 +5,8 @@ ghost use mathlib.Core.Path.{_≡_};
 ghost use lib.ListN.{length, replicate};
 ghost use Rattle.book_format.specs.Book.{tradesOf, usersOf, versionOf};
 ghost use Rattle.book_parties.specs.Ids.{BookIn};
-ghost use Rattle.book_sums.specs.Twelve.{Low, TwelveOf};
+ghost use Rattle.book_questions.specs.Opened.{OpenedParties};
+ghost use Rattle.book_sums.specs.Twelve.{SumsOf};
 ghost use Rattle.risk_bearers.specs.Bearers.{BorneIn, tradesIn, usersIn};
 ghost use Rattle.rules.specs.Areas.{managersIn};
 
@@ -41,7 +42,7 @@ pub fn bear_managed(
     requires { ⌜ BookIn (now book) (now sellers) (now buyers) × (managersIn (versionOf (now book)) ≡ true) ⌝ }
     requires { ⌜ (length (now «bearing_sellers») ≡ 256) × (length (now «bearing_buyers») ≡ 256) ⌝ }
     ensures { λ _. ⌜ BorneIn (now (book .entry)) (now («bearing_sellers» .exit)) (now («bearing_buyers» .exit)) ⌝ }
-    ensures { λ _. ⌜ TwelveOf (usersIn (now (book .entry))) (tradesIn (now (book .entry))) (now (sums .exit)) × Low (now (sums .exit)) ⌝ }
+    ensures { λ _. ⌜ SumsOf (usersIn (now (book .entry))) (tradesIn (now (book .entry))) (now (sums .exit)) ⌝ }
 {
     let n = book_format::user_count(book) as usize;
     let m = book_format::trade_count(book) as usize;
@@ -72,10 +73,10 @@ pub fn bear(
     bearing_buyers: &mut [u8; 256],
     sums: &mut [u32; 768],
 )
-    requires { ⌜ BookIn (now book) (now sellers) (now buyers) × (length (now sellers) ≡ 256) × (length (now buyers) ≡ 256) × (length (now «bearing_sellers») ≡ 256) × (length (now «bearing_buyers») ≡ 256) ⌝ }
-    requires { ⌜ TwelveOf (usersOf (now book)) (tradesOf (now book)) (now sums) × Low (now sums) ⌝ }
+    requires { ⌜ OpenedParties (now book) (now sellers) (now buyers) × SumsOf (usersOf (now book)) (tradesOf (now book)) (now sums) ⌝ }
+    requires { ⌜ (length (now «bearing_sellers») ≡ 256) × (length (now «bearing_buyers») ≡ 256) ⌝ }
     ensures { λ _. ⌜ BorneIn (now (book .entry)) (now («bearing_sellers» .exit)) (now («bearing_buyers» .exit)) ⌝ }
-    ensures { λ _. ⌜ TwelveOf (usersIn (now (book .entry))) (tradesIn (now (book .entry))) (now (sums .exit)) × Low (now (sums .exit)) ⌝ }
+    ensures { λ _. ⌜ SumsOf (usersIn (now (book .entry))) (tradesIn (now (book .entry))) (now (sums .exit)) ⌝ }
 {
     if book_format::has_managers(book_format::version(book)) {
         bear_managed(book, sellers, buyers, bearing_sellers, bearing_buyers, sums);

@@ -6,7 +6,7 @@ use Rattle.laws_sales.specs.Parties.{cutBefore}
 use Rattle.book_format.proofs.Passed.{length-usersOf}
 use Rattle.book_format.specs.Book.{bookOf, userCount, usersOf}
 use Rattle.risk_bearers.proofs.Borne.{id-in}
-use Rattle.risk_bearers.specs.Bearers.{tradesIn, usersIn}
+use Rattle.risk_bearers.specs.Bearers.{RiskIn, tradesIn, usersIn}
 use Rattle.base.proofs.Linear.{by-order}
 use Rattle.laws.proofs.Refusals.{number-none, number-some, numbered, refusal-first, refusal-next}
 use Rattle.risk_user.proofs.Rules.{called-own, level-own, state-own}
@@ -20,7 +20,6 @@ use Rattle.rules.specs.Levels.{Limits, afternoonLevel, calledIn, exceedsMargin,
 use Rattle.base.specs.Lists.{all}
 use Rattle.rules.specs.Questions.{Question, numberOf, refusal}
 use Rattle.rules.specs.Reduction.{target}
-use Rattle.run_reduction.specs.Books.{Runnable}
 use Rattle.call_questions.specs.Asked.{ShortfallOf, levelQuestions, refusedBy}
 
 -- ---- the questions and what follows them
@@ -75,7 +74,7 @@ short-target limits u level called h =
     go true false m a n k = absurd (omega (arith, k))
     go false c m a n k = absurd (omega (arith, k))
 
-module _ {limits : Limits} {f : Prices} {s sellers parties sums : List ℕ} (r : Runnable limits f s sellers parties sums) {place : ℕ} (inside : place < userCount s)
+module _ {limits : Limits} {f : Prices} {s sums : List ℕ} (r : RiskIn limits f s sums) {place : ℕ} (inside : place < userCount s)
     {ps : List ℕ} (p : PositionsOf (usersIn s) ps) where
   abbrev user : User
   user = getD (usersOf s) place nobody
@@ -86,14 +85,14 @@ module _ {limits : Limits} {f : Prices} {s sellers parties sums : List ℕ} (r :
   -- the level is the user's
   pub asked-level : {level : ℕ} → level ≡ levelAt limits f (usersOf s) sums ps place → level ≡ afternoonLevel limits (bookOf s) (getD (usersOf s) place nobody)
   unfolding bookOf
-  asked-level e = e ∙ ap (λ (g : Prices). levelAt limits g (usersOf s) sums ps place) (r .prices-are) ∙ level-own (bookOf s) (r .twelve) p place member limits
+  asked-level e = e ∙ ap (λ (g : Prices). levelAt limits g (usersOf s) sums ps place) (r .prices-are) ∙ level-own (bookOf s) (r .sums-are .twelve) p place member limits
 
   -- and whether it is called in
   pub asked-called : {called below : Bool} → called ≡ (flaggedAt limits f (usersOf s) ps place || below)
       → below ≡ cutBefore (idAt (usersIn s) place) (tradesIn s) → called ≡ calledIn limits (bookOf s) (getD (usersOf s) place nobody)
   unfolding bookOf
   asked-called {called} {below} e c =
-      called-own (bookOf s) (r .twelve) p place member limits (e ∙ ap (λ (g : Prices). flaggedAt limits g (usersOf s) ps place || below) (r .prices-are))
+      called-own (bookOf s) (r .sums-are .twelve) p place member limits (e ∙ ap (λ (g : Prices). flaggedAt limits g (usersOf s) ps place || below) (r .prices-are))
       (c ∙ ap (λ (id : ℕ). cutBefore id (tradesIn s)) (id-in s place))
 
   module _ {level : ℕ} {called : Bool} (le : level ≡ afternoonLevel limits (bookOf s) (getD (usersOf s) place nobody)) (ce : called ≡ calledIn limits (bookOf s) (getD (usersOf s) place nobody))

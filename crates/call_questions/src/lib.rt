@@ -38,21 +38,21 @@ fn refused_by(state: State) -> u32
 // Asks the questions 9, 11 and 13 of the user at a place, and fills in the positions of all users.
 pub fn shortfall_at(
     book: &[u8],
-    sellers: &[u8; 256],
-    parties: &[u8; 256],
+    bearing_sellers: &[u8; 256],
+    bearing_buyers: &[u8; 256],
     sums: &[u32; 768],
     positions: &mut [u32; 192],
     place: usize,
     day: Day,
 ) -> Shortfall
-    requires { ⌜ Runnable (asLimits (day .limits)) (asPrices (day .prices)) (now book) (now sellers) (now parties) (now sums) × (place < userCount (now book)) × (length (now positions) ≡ 192) ⌝ }
+    requires { ⌜ Runnable (asLimits (day .limits)) (asPrices (day .prices)) (now book) (now «bearing_sellers») (now «bearing_buyers») (now sums) × (place < userCount (now book)) × (length (now positions) ≡ 192) ⌝ }
     ensures { λ r. ⌜ ShortfallOf (asLimits (day .limits)) (bookOf (now (book .entry))) (getD (usersOf (now (book .entry))) place nobody) (r .number) (r .target .0) ⌝ }
     ensures { λ _. ⌜ PositionsOf (usersIn (now (book .entry))) (now (positions .exit)) × (length (now (positions .exit)) ≡ 192) ⌝ }
 {
     let n = book_format::user_count(book) as usize;
     let m = book_format::trade_count(book) as usize;
     run_positions::fill_positions(book, n, positions);
-    let below_notified = cut_parties::below_notified_at(book, n, m, sellers, parties, place);
+    let below_notified = cut_parties::below_notified_at(book, n, m, bearing_sellers, bearing_buyers, place);
     let called = risk_user::called_at(book, positions, place, below_notified, day);
     let level = risk_user::level_at(book, sums, positions, place, day);
     let number = refused_by(risk_user::state_of(book, place, level, called, day));

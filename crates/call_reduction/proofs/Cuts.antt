@@ -45,13 +45,13 @@ pub all-listed : {b : Book} {ss origins ns areaCodes bs : List ℕ} {count : ℕ
     → Listed b ss origins ns areaCodes bs (allSales b)
 all-listed {b} {ss} {origins} {ns} {areaCodes} {bs} {count} q z r = subst (λ (n : ℕ). Listed b ss origins ns areaCodes bs n) (q .all) (record { sales = q; standing = z; room = r })
 
-module _ {f : Prices} {s : List ℕ} {place : ℕ} {ownSellers ownBuyers sellers parties ps : List ℕ} (p : UserOf f s place ownSellers ownBuyers sellers parties ps) {ss origins ns areaCodes bs : List ℕ}
+module _ {f : Prices} {s : List ℕ} {place : ℕ} {sellers buyers ps : List ℕ} (p : UserOf f s place sellers buyers ps) {ss origins ns areaCodes bs : List ℕ}
     (l : Listed (borneBook (bookOf s)) ss origins ns areaCodes bs (allSales (borneBook (bookOf s)))) where
   pub user-run : RunOf (p .limits) f s (p .sums) ss areaCodes bs
-  user-run = run-stays (p .book) l
+  user-run = run-stays (p .risk) l
 
   pub user-reached : Reached (bookOf s) (bookOf s) ns ps
-  user-reached = first-reached (p .book) l refl (l .room .standing-room) (p .positions) (p .room)
+  user-reached = first-reached (p .risk) l refl (l .room .standing-room) (p .positions) (p .room)
 
   abbrev b : Book
   b = bookOf s
@@ -76,7 +76,7 @@ module _ {f : Prices} {s : List ℕ} {place : ℕ} {ownSellers ownBuyers sellers
   inside-users = omega (arith, p .inside, length-usersIn s)
 
   pub sound : Sound (bookOf s)
-  sound = p .book .book .accepted .sound
+  sound = p .book .accepted .sound
 
   module _ (last : List Question) (asked : ℕ) where
     -- an own sale stands where the user has an eligible trade

@@ -42,7 +42,7 @@ use Rattle.call_reduction.proofs.Ways.{stepWith}
 
 -- ---- what each trade loses
 
-module _ {f : Prices} {s : List ℕ} {place : ℕ} {ownSellers ownBuyers sellers parties ps : List ℕ} (p : UserOf f s place ownSellers ownBuyers sellers parties ps) {ss origins ns areaCodes bs : List ℕ}
+module _ {f : Prices} {s : List ℕ} {place : ℕ} {sellers buyers ps : List ℕ} (p : UserOf f s place sellers buyers ps) {ss origins ns areaCodes bs : List ℕ}
     (l : Listed (borneBook (bookOf s)) ss origins ns areaCodes bs (allSales (borneBook (bookOf s)))) (last : List Question) (asked : ℕ) (cs cs₀ : List ℕ)
     (filled : cs ≡ sets cs₀ (getD ss place 0) (cutsOf f (shortIn ps place) asked (part (getD ss place 0) (getD ss (place + 1) 0) ns) (part (getD ss place 0) (getD ss (place + 1) 0) areaCodes)))
     (long : length cs₀ ≡ 256) where
@@ -83,7 +83,7 @@ module _ {f : Prices} {s : List ℕ} {place : ℕ} {ownSellers ownBuyers sellers
 
   few-trades : length (bookOf s .trades) ≤ 256
   unfolding bookOf
-  few-trades = omega (arith, length-tradesOf s, p .book .book .accepted .held .form .trades)
+  few-trades = omega (arith, length-tradesOf s, p .book .accepted .held .form .trades)
 
   -- and are
   pub own-noted : (lent : Bool) {log t m : List ℕ} {n : ℕ} → AllBytes log → (lent ≡ true → T (logFits log s)) → roomIn lent log ≡ true
@@ -92,10 +92,10 @@ module _ {f : Prices} {s : List ℕ} {place : ℕ} {ownSellers ownBuyers sellers
   unfolding notedBy after roomIn room bookOf usersOf
   own-noted false b fits free noted z = noted .stays refl
   own-noted true {log} {t} {m} b fits free noted z =
-      let few = p .book .book .accepted .held .form .trades in
+      let few = p .book .accepted .held .form .trades in
       let count = fitting-count log s b few (fits refl) in
       let last-entry = noted .last refl in
-      let more = reduction-entered (bookOf s) u asked (p .book .book .accepted .sound) few-trades (fitting-trades log s b few (fits refl)) count (omega (arith, ltb-true 0 (256 - entryCount log) free))
+      let more = reduction-entered (bookOf s) u asked (p .book .accepted .sound) few-trades (fitting-trades log s b few (fits refl)) count (omega (arith, ltb-true 0 (256 - entryCount log) free))
       own-places (lost p l last asked cs cs₀ filled long) (last-entry .entry) in
       rw z (log-sealed t more (ap suc (sym count)) (last-entry .whole))
 

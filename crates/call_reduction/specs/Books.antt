@@ -2,20 +2,19 @@
 use Rattle.base.specs.Basics.{_≡_, List, ℕ, _<_, length}
 use Rattle.book_format.specs.Book.{userCount}
 use Rattle.book_parties.specs.Ids.{BookIn}
-use Rattle.risk_bearers.specs.Bearers.{usersIn}
+use Rattle.risk_bearers.specs.Bearers.{RiskIn, usersIn}
 use Rattle.risk_user.specs.UserAt.{PositionsOf}
 use Rattle.rules.specs.Areas.{Prices}
 use Rattle.rules.specs.Book.{Book}
 use Rattle.rules.specs.Levels.{Limits}
-use Rattle.run_reduction.specs.Books.{Runnable}
 use Rattle.laws_sales.specs.Groups.{starts}
 
 -- an accepted book, a user's place in it, and the positions of its users; the limits and sums that the user's questions were asked by are of no use to the cuts
-pub record UserOf (f : Prices) (s : List ℕ) (place : ℕ) (ownSellers ownBuyers sellers parties ps : List ℕ) : Type 0 where
+pub record UserOf (f : Prices) (s : List ℕ) (place : ℕ) (sellers buyers ps : List ℕ) : Type 0 where
   pub limits : Limits
   pub sums : List ℕ
-  pub book : Runnable limits f s sellers parties sums
-  pub own : BookIn s ownSellers ownBuyers
+  pub risk : RiskIn limits f s sums
+  pub book : BookIn s sellers buyers
   pub inside : place < userCount s
   pub positions : PositionsOf (usersIn s) ps
   pub room : length ps ≡ 192

@@ -10,20 +10,20 @@ ghost use mathlib.Core.Bool.{true};
 ghost use mathlib.Core.Path.{_≡_};
 ghost use Prim.Native.Nat.{_<_};
 ghost use lib.Dec.{T};
-ghost use lib.ListN.{getD, length};
+ghost use lib.ListN.{getD};
 ghost use Rattle.book_parties.specs.Ids.{BookIn};
 ghost use Rattle.laws_sales.specs.Borne.{borneBook};
 ghost use Rattle.call_answers.specs.Reduction.{answerOf};
 ghost use Rattle.book_format.specs.Book.{bookOf, userCount, usersOf};
-ghost use Rattle.book_format.specs.Questions.{bookNumber};
-ghost use Rattle.book_questions.specs.Asked.{PartiesFound};
+ghost use Rattle.book_questions.specs.Opened.{Opened};
+ghost use Rattle.risk_bearers.specs.Bearers.{BorneIn};
 ghost use Rattle.log_format.specs.Fits.{logFits};
 ghost use Rattle.rules.specs.Book.{nobody};
 ghost use Rattle.log_format.specs.Noted.{entryOf};
 ghost use Rattle.rules.specs.Reduction.{cuts};
 ghost use Rattle.run_reduction.specs.Books.{Listed, Runnable};
 ghost use Rattle.units.specs.Prices.{asPrices};
-ghost use Rattle.units.specs.Limits.{asLimits, LimitsInRange};
+ghost use Rattle.units.specs.Limits.{asLimits};
 ghost use Rattle.call_reduction.specs.Call.{Gives, onSales, onUser, roomAsked};
 ghost use Rattle.call_reduction.specs.Books.{UserOf, allSales};
 ghost use Rattle.call_reduction.specs.Log.{ReducedWith, notedBy};
@@ -33,15 +33,13 @@ ghost use Rattle.call_reduction.specs.Log.{ReducedWith, notedBy};
 // Asks question 14 of the user at a place and 20 of a log that is given, and reduces the user for an amount, by the lists of all own sales.
 fn reduce_listed(
     book: &mut [u8],
-    own_sellers: &[u8; 256],
-    own_buyers: &[u8; 256],
     sellers: &[u8; 256],
-    parties: &[u8; 256],
+    buyers: &[u8; 256],
     starts: &[usize; 65],
     origins: &[u8; 256],
     standing: &mut [u64; 256],
     areas: &[u8; 256],
-    buyers: &[u8; 256],
+    sale_buyers: &[u8; 256],
     positions: &mut [u32; 192],
     place: usize,
     asked: Cents,
@@ -49,8 +47,8 @@ fn reduce_listed(
     with_log: bool,
     log: &mut [u8],
 ) -> ReductionAnswer
-    requires { ⌜ UserOf (asPrices prices) (now book) place (now «own_sellers») (now «own_buyers») (now sellers) (now parties) (now positions) ⌝ }
-    requires { ⌜ Listed (borneBook (bookOf (now book))) (now starts) (now origins) (now standing) (now areas) (now buyers) (allSales (borneBook (bookOf (now book)))) ⌝ }
+    requires { ⌜ UserOf (asPrices prices) (now book) place (now sellers) (now buyers) (now positions) ⌝ }
+    requires { ⌜ Listed (borneBook (bookOf (now book))) (now starts) (now origins) (now standing) (now areas) (now «sale_buyers») (allSales (borneBook (bookOf (now book)))) ⌝ }
     requires { ⌜ («with_log» ≡ true → T (logFits (now log) (now book))) ⌝ }
     ensures { λ r. ⌜ Gives (onSales (roomAsked «with_log» (now (log .entry))) (now (book .entry)) (getD (usersOf (now (book .entry))) place nobody) (asked .0)) (answerOf r) (now (book .exit)) ⌝ }
     ensures { λ r. ⌜ now (log .exit) ≡ notedBy «with_log» (answerOf r .number) (cuts (bookOf (now (book .entry))) (getD (usersOf (now (book .entry))) place nobody) (asked .0)) (now (book .entry)) (now (book .exit)) (now (log .entry)) ⌝ }
@@ -68,7 +66,7 @@ fn reduce_listed(
     let tally = run_reduction::reduce(
         standing,
         areas,
-        buyers,
+        sale_buyers,
         positions,
         &mut cuts,
         &mut rests,
@@ -79,7 +77,7 @@ fn reduce_listed(
         to,
     );
     let n = book_format::user_count(book) as usize;
-    cut_apply::apply(book, n, own_sellers, own_buyers, origins, &cuts, from, to);
+    cut_apply::apply(book, n, sellers, buyers, origins, &cuts, from, to);
     log_lent::note(book, with_log, log, origins, &cuts, from, to);
     ReductionAnswer::of_cuts(asked, tally)
 }
@@ -87,10 +85,10 @@ fn reduce_listed(
 // Asks question 14 of the user at a place and 20 of a log that is given, and reduces the user for an amount.
 fn reduce_sales(
     book: &mut [u8],
-    own_sellers: &[u8; 256],
-    own_buyers: &[u8; 256],
     sellers: &[u8; 256],
-    parties: &[u8; 256],
+    buyers: &[u8; 256],
+    bearing_sellers: &[u8; 256],
+    bearing_buyers: &[u8; 256],
     positions: &mut [u32; 192],
     place: usize,
     asked: Cents,
@@ -98,7 +96,7 @@ fn reduce_sales(
     with_log: bool,
     log: &mut [u8],
 ) -> ReductionAnswer
-    requires { ⌜ UserOf (asPrices prices) (now book) place (now «own_sellers») (now «own_buyers») (now sellers) (now parties) (now positions) ⌝ }
+    requires { ⌜ UserOf (asPrices prices) (now book) place (now sellers) (now buyers) (now positions) × BorneIn (now book) (now «bearing_sellers») (now «bearing_buyers») ⌝ }
     requires { ⌜ («with_log» ≡ true → T (logFits (now log) (now book))) ⌝ }
     ensures { λ r. ⌜ Gives (onSales (roomAsked «with_log» (now (log .entry))) (now (book .entry)) (getD (usersOf (now (book .entry))) place nobody) (asked .0)) (answerOf r) (now (book .exit)) ⌝ }
     ensures { λ r. ⌜ now (log .exit) ≡ notedBy «with_log» (answerOf r .number) (cuts (bookOf (now (book .entry))) (getD (usersOf (now (book .entry))) place nobody) (asked .0)) (now (book .entry)) (now (book .exit)) (now (log .entry)) ⌝ }
@@ -109,30 +107,28 @@ fn reduce_sales(
     let mut origins = [0u8; 256];
     let mut standing = [0u64; 256];
     let mut areas = [0u8; 256];
-    let mut buyers = [0u8; 256];
+    let mut sale_buyers = [0u8; 256];
     cut_lists::fill_lists(
         book,
         n,
         m,
-        sellers,
-        parties,
+        bearing_sellers,
+        bearing_buyers,
         &mut starts,
         &mut origins,
         &mut standing,
         &mut areas,
-        &mut buyers,
+        &mut sale_buyers,
     );
     reduce_listed(
         book,
-        own_sellers,
-        own_buyers,
         sellers,
-        parties,
+        buyers,
         &starts,
         &origins,
         &mut standing,
         &areas,
-        &buyers,
+        &sale_buyers,
         positions,
         place,
         asked,
@@ -147,18 +143,18 @@ fn reduce_sales(
 // Asks the questions 9, 11, 13 and 14 of the user at a place and 20 of a log that is given, and reduces the user for its target.
 fn reduce_user(
     book: &mut [u8],
-    own_sellers: &[u8; 256],
-    own_buyers: &[u8; 256],
     sellers: &[u8; 256],
-    parties: &[u8; 256],
+    buyers: &[u8; 256],
+    bearing_sellers: &[u8; 256],
+    bearing_buyers: &[u8; 256],
     sums: &[u32; 768],
     place: usize,
     day: Day,
     with_log: bool,
     log: &mut [u8],
 ) -> ReductionAnswer
-    requires { ⌜ BookIn (now book) (now «own_sellers») (now «own_buyers») ⌝ }
-    requires { ⌜ Runnable (asLimits (day .limits)) (asPrices (day .prices)) (now book) (now sellers) (now parties) (now sums) × (place < userCount (now book)) ⌝ }
+    requires { ⌜ BookIn (now book) (now sellers) (now buyers) ⌝ }
+    requires { ⌜ Runnable (asLimits (day .limits)) (asPrices (day .prices)) (now book) (now «bearing_sellers») (now «bearing_buyers») (now sums) × (place < userCount (now book)) ⌝ }
     requires { ⌜ («with_log» ≡ true → T (logFits (now log) (now book))) ⌝ }
     ensures { λ r. ⌜ Gives (onUser (roomAsked «with_log» (now (log .entry))) (asLimits (day .limits)) (now (book .entry)) (getD (usersOf (now (book .entry))) place nobody)) (answerOf r) (now (book .exit)) ⌝ }
     ensures { λ r. ⌜ now (log .exit) ≡ notedBy «with_log» (answerOf r .number) (entryOf (asLimits (day .limits)) (bookOf (now (book .entry))) (getD (usersOf (now (book .entry))) place nobody)) (now (book .entry)) (now (book .exit)) (now (log .entry)) ⌝ }
@@ -166,8 +162,8 @@ fn reduce_user(
     let mut positions = [0u32; 192];
     let shortfall = call_questions::shortfall_at(
         book,
-        sellers,
-        parties,
+        bearing_sellers,
+        bearing_buyers,
         sums,
         &mut positions,
         place,
@@ -180,10 +176,10 @@ fn reduce_user(
     let target = shortfall.target;
     reduce_sales(
         book,
-        own_sellers,
-        own_buyers,
         sellers,
-        parties,
+        buyers,
+        bearing_sellers,
+        bearing_buyers,
         &mut positions,
         place,
         target,
@@ -206,11 +202,8 @@ pub fn reduction(
     with_log: bool,
     log: &mut [u8],
 ) -> ReductionAnswer
-    requires { ⌜ (number ≡ 0 → bookNumber (now book) ≡ 0) ⌝ }
+    requires { ⌜ (number ≡ 0 → Opened (asLimits limits) (now book) (now sellers) (now buyers) (now sums)) ⌝ }
     requires { ⌜ (number ≡ 0 → «with_log» ≡ true → T (logFits (now log) (now book))) ⌝ }
-    requires { ⌜ LimitsInRange (asLimits limits) ⌝ }
-    requires { ⌜ (length (now sellers) ≡ 256) × (length (now buyers) ≡ 256) ⌝ }
-    requires { ⌜ PartiesFound (now book) number (now sellers) (now buyers) (now sums) ⌝ }
     ensures { λ r. ⌜ ReducedWith «with_log» number (asLimits limits) (now (log .entry)) (now (book .entry)) id (answerOf r) (now (book .exit)) (now (log .exit)) ⌝ }
 {
     let entry = call_entry::seek(book, number, id);

@@ -4,11 +4,9 @@ use cut_worth::Totals;
 use risk_user::Day;
 use units::Limits;
 ghost use mathlib.Core.Path.{_≡_};
-ghost use lib.ListN.{length};
 ghost use Rattle.book_format.specs.After.{CalledAfter};
-ghost use Rattle.book_format.specs.Questions.{bookNumber};
-ghost use Rattle.units.specs.Limits.{asLimits, LimitsInRange};
-ghost use Rattle.book_questions.specs.Asked.{PartiesFound};
+ghost use Rattle.units.specs.Limits.{asLimits};
+ghost use Rattle.book_questions.specs.Opened.{Opened};
 ghost use Rattle.cut_worth.specs.Totals.{totals};
 ghost use Rattle.call_answers.specs.Run.{answerOf};
 ghost use Rattle.call_run.specs.Call.{runCall};
@@ -37,10 +35,7 @@ pub fn run(
     buyers: &[u8; 256],
     sums: &mut [u32; 768],
 ) -> RunAnswer
-    requires { ⌜ (number ≡ 0 → bookNumber (now book) ≡ 0) ⌝ }
-    requires { ⌜ LimitsInRange (asLimits limits) ⌝ }
-    requires { ⌜ (length (now sellers) ≡ 256) × (length (now buyers) ≡ 256) ⌝ }
-    requires { ⌜ PartiesFound (now book) number (now sellers) (now buyers) (now sums) ⌝ }
+    requires { ⌜ (number ≡ 0 → Opened (asLimits limits) (now book) (now sellers) (now buyers) (now sums)) ⌝ }
     ensures { λ r. ⌜ CalledAfter number (asLimits limits) (now (book .entry)) runCall (answerOf r) (now (book .exit)) ⌝ }
 {
     if number != 0 {

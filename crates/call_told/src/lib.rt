@@ -8,11 +8,12 @@ ghost use Prim.Native.Nat.{_+_, _*_, _<_, _≤_};
 ghost use lib.ListN.{getD, length};
 ghost use Rattle.rules.specs.Book.{noTrade, nobody};
 ghost use Rattle.rules.specs.Levels.{flagged, Limits as Figures};
-ghost use Rattle.units.specs.Limits.{asLimits, LimitsInRange};
+ghost use Rattle.units.specs.Limits.{asLimits};
 ghost use Rattle.book_format.specs.Book.{bookOf, tradeCount, tradesAt, tradesOf, userCount, usersOf};
 ghost use Rattle.book_format.specs.Places.{TradeIn, UserIn};
 ghost use Rattle.book_format.specs.Questions.{Formed, bookNumber};
-ghost use Rattle.book_parties.specs.Ids.{BookIn, Placed};
+ghost use Rattle.book_parties.specs.Ids.{BookIn};
+ghost use Rattle.book_questions.specs.Opened.{OpenedFigures, OpenedParties};
 ghost use Rattle.views.specs.Kept.{placeKept};
 ghost use Rattle.views.specs.Views.{seesTrade, tradesSeen};
 ghost use Rattle.rights.specs.Trades.{countOf, flagOf, toldAfter};
@@ -62,8 +63,7 @@ fn seek_shipper(book: &[u8], opened: u32, id: u32) -> Entry
 
 // Is the user at a place flagged, by its positions as its risk is borne?
 fn is_flagged(book: &[u8], limits: Limits, place: usize) -> bool
-    requires { ⌜ (bookNumber (now book) ≡ 0) × (place < userCount (now book)) ⌝ }
-    requires { ⌜ LimitsInRange (asLimits limits) ⌝ }
+    requires { ⌜ OpenedFigures (asLimits limits) (now book) × (place < userCount (now book)) ⌝ }
     ensures { λ r. ⌜ r ≡ flagged (asLimits limits) (bookOf (now (book .entry))) (getD (usersOf (now (book .entry))) place nobody) ⌝ }
 {
     let user = book_format::user_at(book, place);
@@ -155,8 +155,7 @@ fn trade_offset(book: &[u8], place: usize) -> usize
 
 // Whether the user of an id is flagged.
 pub fn flag(book: &[u8], opened: u32, limits: Limits, id: u32) -> FlagAnswer
-    requires { ⌜ (opened ≡ 0 → bookNumber (now book) ≡ 0) ⌝ }
-    requires { ⌜ LimitsInRange (asLimits limits) ⌝ }
+    requires { ⌜ (opened ≡ 0 → OpenedFigures (asLimits limits) (now book)) ⌝ }
     ensures { λ r. ⌜ flagTold r ≡ toldAfter opened (asLimits limits) (now (book .entry)) (flagOf id) ⌝ }
 {
     let entry = seek_shipper(book, opened, id);
@@ -183,8 +182,7 @@ pub fn count(
     buyers: &[u8; 256],
     id: u32,
 ) -> CountAnswer
-    requires { ⌜ (opened ≡ 0 → bookNumber (now book) ≡ 0) ⌝ }
-    requires { ⌜ (opened ≡ 0 → Placed (usersOf (now book)) (tradesOf (now book)) (now sellers) (now buyers)) ⌝ }
+    requires { ⌜ (opened ≡ 0 → OpenedParties (now book) (now sellers) (now buyers)) ⌝ }
     ensures { λ r. ⌜ ((limits : Figures) → countTold r ≡ toldAfter opened limits (now (book .entry)) (countOf id)) ⌝ }
 {
     let entry = seek_shipper(book, opened, id);
@@ -213,8 +211,7 @@ pub fn trade<'a>(
     ordinal: u32,
     number: &mut u32,
 ) -> &'a [u8]
-    requires { ⌜ (opened ≡ 0 → bookNumber (now book) ≡ 0) ⌝ }
-    requires { ⌜ (opened ≡ 0 → Placed (usersOf (now book)) (tradesOf (now book)) (now sellers) (now buyers)) ⌝ }
+    requires { ⌜ (opened ≡ 0 → OpenedParties (now book) (now sellers) (now buyers)) ⌝ }
     ensures { λ r. ⌜ TradeAfter opened (now (book .entry)) id ordinal (now (number .exit)) (now r) (book .entry .ptr) (r .ptr) ⌝ }
 {
     let entry = seek_shipper(book, opened, id);

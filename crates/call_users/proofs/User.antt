@@ -7,9 +7,9 @@ use Rattle.rules.specs.Day.{State, clear, printedLevel, state}
 use Rattle.rules.specs.Levels.{Limits, afternoonLevel, morningLevel, shipper}
 use Rattle.book_format.specs.After.{after}
 use Rattle.user_levels.specs.Levels.{AllLevels, UserLevels, levelsAfter, levelsIn, levelsOf, noLevels, userRows}
-use Rattle.call_users.specs.Rows.{UsersIn}
+use Rattle.book_questions.specs.Opened.{OpenedFigures}
 
-pub user-in : {limits : Limits} {s : List ℕ} {place : ℕ} → UsersIn limits s → place < userCount s → UserIn s place
+pub user-in : {limits : Limits} {s : List ℕ} {place : ℕ} → OpenedFigures limits s → place < userCount s → UserIn s place
 user-in p h = record { form = p .accepted .held .form; inside = h }
 
 module _ (limits : Limits) (b : Book) (u : User) {id : ℕ} (own : id ≡ u .party .id) where

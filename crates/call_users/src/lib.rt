@@ -14,19 +14,18 @@ ghost use lib.ListN.{getD, replicate};
 ghost use Rattle.rules.specs.Book.{nobody};
 ghost use Rattle.rules.specs.Day as day;
 ghost use Rattle.rules.specs.Levels.{afternoonLevel};
-ghost use Rattle.units.specs.Limits.{asLimits, LimitsInRange};
+ghost use Rattle.units.specs.Limits.{asLimits};
 ghost use Rattle.book_records.specs.User.{alone, asUser};
 ghost use Rattle.book_format.specs.Book.{bookOf, userCount, usersOf};
-ghost use Rattle.book_format.specs.Questions.{bookNumber};
 ghost use Rattle.book_parties.specs.Ids.{BookIn};
-ghost use Rattle.book_questions.specs.Asked.{PartiesFound};
+ghost use Rattle.book_questions.specs.Opened.{Opened, OpenedFigures, OpenedSums};
 ghost use Rattle.cut_parties.specs.Flags.{CutFlags};
 ghost use Rattle.risk_bearers.specs.Bearers.{tradesIn, usersIn};
 ghost use Rattle.laws_sales.specs.Parties.{cutBefore};
-ghost use Rattle.risk_members.specs.Members.{HoldingsOf, SumsOf};
+ghost use Rattle.risk_members.specs.Members.{HoldingsOf};
 ghost use Rattle.risk_user.specs.States.{stateOf};
 ghost use Rattle.user_levels.specs.Levels.{levelsAfter, levelsOf, noLevels, userRows};
-ghost use Rattle.call_users.specs.Rows.{UsersIn, asRow, levelsTold};
+ghost use Rattle.call_users.specs.Rows.{asRow, levelsTold};
 
 // A user's id, its state, and its morning and its afternoon level, which are 0 of a clearing house.
 pub struct UserLevels {
@@ -69,7 +68,7 @@ fn state_at(
     level: Cents,
     below_notified: bool,
 ) -> State
-    requires { ⌜ UsersIn (asLimits limits) (now book) × (place < userCount (now book)) ⌝ }
+    requires { ⌜ OpenedFigures (asLimits limits) (now book) × (place < userCount (now book)) ⌝ }
     requires { ⌜ (asUser user ≡ alone (getD (usersOf (now book)) place nobody)) × HoldingsOf (now book) place holdings ⌝ }
     requires { ⌜ (level .0 ≡ afternoonLevel (asLimits limits) (bookOf (now book)) (getD (usersOf (now book)) place nobody)) × («below_notified» ≡ cutBefore (getD (usersOf (now book)) place nobody .party .id) (tradesIn (now book))) ⌝ }
     ensures { λ r. ⌜ stateOf r ≡ day.state (asLimits limits) (bookOf (now (book .entry))) (getD (usersOf (now (book .entry))) place nobody) ⌝ }
@@ -86,14 +85,8 @@ fn state_at(
 }
 
 // The levels and the state of the user at a place, given the sums of each user.
-fn levels_at(
-    book: &[u8],
-    sums: &[u32; 768],
-    place: usize,
-    limits: Limits,
-    below_notified: bool,
-) -> UserLevels
-    requires { ⌜ UsersIn (asLimits limits) (now book) × SumsOf (now book) (now sums) × (place < userCount (now book)) ⌝ }
+fn levels_at(book: &[u8], sums: &[u32; 768], place: usize, limits: Limits, below_notified: bool) -> UserLevels
+    requires { ⌜ OpenedSums (asLimits limits) (now book) (now sums) × (place < userCount (now book)) ⌝ }
     requires { ⌜ «below_notified» ≡ cutBefore (getD (usersOf (now book)) place nobody .party .id) (tradesIn (now book)) ⌝ }
     ensures { λ r. ⌜ asRow r ≡ levelsOf (asLimits limits) (bookOf (now (book .entry))) (getD (usersOf (now (book .entry))) place nobody) ⌝ }
 {
@@ -137,7 +130,7 @@ fn rows_of(
     below_notified: &[bool; 64],
     limits: Limits,
 ) -> [UserLevels; 64]
-    requires { ⌜ UsersIn (asLimits limits) (now book) × SumsOf (now book) (now sums) × (n ≡ userCount (now book)) × CutFlags (usersIn (now book)) (tradesIn (now book)) (now «below_notified») ⌝ }
+    requires { ⌜ OpenedSums (asLimits limits) (now book) (now sums) × (n ≡ userCount (now book)) × CutFlags (usersIn (now book)) (tradesIn (now book)) (now «below_notified») ⌝ }
     ensures { λ r. ⌜ map asRow r ≡ userRows (asLimits limits) (bookOf (now (book .entry))) ⌝ }
 {
     let mut rows = no_users();
@@ -197,9 +190,7 @@ pub fn levels(
     buyers: &[u8; 256],
     sums: &[u32; 768],
 ) -> LevelsAnswer
-    requires { ⌜ (number ≡ 0 → bookNumber (now book) ≡ 0) ⌝ }
-    requires { ⌜ LimitsInRange (asLimits limits) ⌝ }
-    requires { ⌜ PartiesFound (now book) number (now sellers) (now buyers) (now sums) ⌝ }
+    requires { ⌜ (number ≡ 0 → Opened (asLimits limits) (now book) (now sellers) (now buyers) (now sums)) ⌝ }
     ensures { λ r. ⌜ levelsTold r ≡ levelsAfter number (asLimits limits) (now (book .entry)) ⌝ }
 {
     if number != 0 {

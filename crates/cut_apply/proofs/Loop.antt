@@ -21,8 +21,8 @@ use Rattle.cut_apply.specs.Cutting.{Cutting, CuttablePart, MovedBy, Sale
 -- ---- the lists that are lent
 
 -- fronts of two arrays with room for those that lose something
-pub lent-room : (room : ℕ) {s sellers parties origins cuts : List ℕ} {from to lost : ℕ} → Cutting s sellers parties origins cuts from to lost → lost ≤ room
-    → Cutting s sellers parties origins cuts from to (length (take lost (replicate {A = ℕ} room 0))) × (length (take lost (replicate {A = ℕ} room 0)) ≡ length (take lost (replicate {A = ℕ} room 0)))
+pub lent-room : (room : ℕ) {s sellers buyers origins cuts : List ℕ} {from to lost : ℕ} → Cutting s sellers buyers origins cuts from to lost → lost ≤ room
+    → Cutting s sellers buyers origins cuts from to (length (take lost (replicate {A = ℕ} room 0))) × (length (take lost (replicate {A = ℕ} room 0)) ≡ length (take lost (replicate {A = ℕ} room 0)))
 lent-room room {lost = lost} p h =
     let e = length-take-le lost (replicate {A = ℕ} room 0) (omega (arith, length-replicate {A = ℕ} room 0)) in
     (record { book = p .book; cuttable = p .cuttable; count = e ∙ p .count }, refl)
@@ -35,7 +35,7 @@ pub record MovedTo (b : Book) (origins cuts : List ℕ) (from to : ℕ) (places 
   pub inside : k ≤ to
   pub so : MovedSo b (part from to origins) (part from to cuts) places amounts s lost (k - from)
 
-module _ {s₀ sellers parties : List ℕ} (a : BookIn s₀ sellers parties) {origins cuts : List ℕ} {from to : ℕ} (p : CuttablePart (bookOf s₀ .trades) origins cuts from to) where
+module _ {s₀ sellers buyers : List ℕ} (a : BookIn s₀ sellers buyers) {origins cuts : List ℕ} {from to : ℕ} (p : CuttablePart (bookOf s₀ .trades) origins cuts from to) where
   pub loop-start : {places amounts : List ℕ} → length places ≡ losing (part from to cuts) → length amounts ≡ losing (part from to cuts) → MovedTo (bookOf s₀) origins cuts from to places amounts s₀ 0 from
   loop-start {places} {amounts} e f =
       let none : 0 ≡ from - from = omega arith in
@@ -49,7 +49,7 @@ module _ {s₀ sellers parties : List ℕ} (a : BookIn s₀ sellers parties) {or
   long = part-length origins from to (p .origins-room)
 
   module _ {places amounts s : List ℕ} {lost k : ℕ} (q : MovedTo (bookOf s₀) origins cuts from to places amounts s lost k) (h : k < to)
-      {place seller buyer cut : ℕ} (at : place ≡ getD origins k 0) (sells : seller ≡ getD sellers place 0) (buys : buyer ≡ getD parties place 0) (loses : cut ≡ getD cuts k 0) where
+      {place seller buyer cut : ℕ} (at : place ≡ getD origins k 0) (sells : seller ≡ getD sellers place 0) (buys : buyer ≡ getD buyers place 0) (loses : cut ≡ getD cuts k 0) where
     -- the sale and its cut
     place-is : place ≡ getD (part from to origins) (k - from) 0
     place-is = at ∙ sym (part-here origins from to k 0 (q .begun) h)
@@ -64,14 +64,14 @@ module _ {s₀ sellers parties : List ℕ} (a : BookIn s₀ sellers parties) {or
     loop-sale {begin} starts =
         subst (λ (x : ℕ). SaleIn s begin seller buyer x cut) (sym place-is)
         (subst (λ (x : ℕ). SaleIn s begin seller buyer (getD (part from to origins) (k - from) 0) x) (sym cut-is)
-        (sale-here a (p .cuttable) (k - from) inside-part (sells ∙ ap (λ (x : ℕ). getD sellers x 0) place-is) (buys ∙ ap (λ (x : ℕ). getD parties x 0) place-is) (q .so) starts))
+        (sale-here a (p .cuttable) (k - from) inside-part (sells ∙ ap (λ (x : ℕ). getD sellers x 0) place-is) (buys ∙ ap (λ (x : ℕ). getD buyers x 0) place-is) (q .so) starts))
 
     -- where it loses something, there is room to note it
     pub loop-room : (length places ≤ 256) × (0 < cut → (lost < length places) × (lost < length amounts))
     loop-room =
         let cs = part from to cuts in
         let room : 0 < cut → lost < losing cs = λ l.
-        sale-room a (p .cuttable) (k - from) inside-part (sells ∙ ap (λ (x : ℕ). getD sellers x 0) place-is) (buys ∙ ap (λ (x : ℕ). getD parties x 0) place-is) (q .so) (omega (arith, cut-is)) in (
+        sale-room a (p .cuttable) (k - from) inside-part (sells ∙ ap (λ (x : ℕ). getD sellers x 0) place-is) (buys ∙ ap (λ (x : ℕ). getD buyers x 0) place-is) (q .so) (omega (arith, cut-is)) in (
           omega (arith, q .so .places-room, losing-le cs, p .cuttable .same, long, p .few),
           λ l. (omega (arith, room l, q .so .places-room), omega (arith, room l, q .so .amounts-room)),
         )
@@ -87,7 +87,7 @@ module _ {s₀ sellers parties : List ℕ} (a : BookIn s₀ sellers parties) {or
           begun = omega (arith, q .begun);
           inside = omega arith;
           so = subst (MovedSo (bookOf s₀) (part from to origins) (part from to cuts) places' amounts' s' lost') next
-              (moved-more a (p .cuttable) (k - from) inside-part (sells ∙ ap (λ (x : ℕ). getD sellers x 0) place-is) (buys ∙ ap (λ (x : ℕ). getD parties x 0) place-is) (q .so) here);
+              (moved-more a (p .cuttable) (k - from) inside-part (sells ∙ ap (λ (x : ℕ). getD sellers x 0) place-is) (buys ∙ ap (λ (x : ℕ). getD buyers x 0) place-is) (q .so) here);
         }
 
   -- all are passed

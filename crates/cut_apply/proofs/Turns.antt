@@ -52,7 +52,7 @@ pub record MovedSo (b : Book) (is cs places amounts s : List ℕ) (lost j : ℕ)
   pub places-room : length places ≡ losing cs
   pub amounts-room : length amounts ≡ losing cs
 
-module _ {s₀ sellers parties : List ℕ} (a : BookIn s₀ sellers parties) {is cs : List ℕ} (p : Cuttable (bookOf s₀ .trades) is cs) where
+module _ {s₀ sellers buyers : List ℕ} (a : BookIn s₀ sellers buyers) {is cs : List ℕ} (p : Cuttable (bookOf s₀ .trades) is cs) where
   -- none is passed yet
   pub moved-start : {places amounts : List ℕ} → length places ≡ losing cs → length amounts ≡ losing cs → MovedSo (bookOf s₀) is cs places amounts s₀ 0 0
   unfolding withUsers withTrades loweredAt written
@@ -133,19 +133,19 @@ module _ {s₀ sellers parties : List ℕ} (a : BookIn s₀ sellers parties) {is
           ap (λ (q : Party). q .id) (party-at (bookOf s₀ .users) (withTrades (bookOf s₀) so-far .users) (parties-at j) party nobody)
           ∙ sym (eqb-true (side (sale .terms)) (idAt (usersOf s₀) party) (sym here ∙ eq-eqb party party refl))
 
-    module _ {seller buyer : ℕ} (sells : seller ≡ getD sellers place 0) (buys : buyer ≡ getD parties place 0) where
+    module _ {seller buyer : ℕ} (sells : seller ≡ getD sellers place 0) (buys : buyer ≡ getD buyers place 0) where
       seller-low : seller < userCount s₀
       seller-low = party-low (λ r. r .seller) seller-known sellers (a .placed .of-sellers) sells
 
       buyer-low : buyer < userCount s₀
-      buyer-low = party-low (λ r. r .buyer) buyer-known parties (a .placed .of-buyers) buys
+      buyer-low = party-low (λ r. r .buyer) buyer-known buyers (a .placed .of-buyers) buys
 
       -- at the places of its parties
       users-settled : settledAt seller buyer (sale .terms .area) cut (withTrades (bookOf s₀) so-far .users) ≡ withTrades (bookOf s₀) (loweredTo is cs (bookOf s₀ .trades) (suc j)) .users
       users-settled =
           let many = users-many j in
           sym (users-next ∙ settle-one-at cut sale (withTrades (bookOf s₀) so-far .users) 0 seller buyer (sound-at j (omega arith) .ids) (omega (arith, seller-low, users-are)) (omega (arith, buyer-low, users-are))
-          (party-id (λ r. r .seller) seller-known sellers (a .placed .of-sellers) sells) (party-id (λ r. r .buyer) buyer-known parties (a .placed .of-buyers) buys) (p .most j h))
+          (party-id (λ r. r .seller) seller-known sellers (a .placed .of-sellers) sells) (party-id (λ r. r .buyer) buyer-known buyers (a .placed .of-buyers) buys) (p .most j h))
 
       module _ {places amounts s : List ℕ} {lost : ℕ} (q : MovedSo (bookOf s₀) is cs places amounts s lost j) where
         users-here : usersOf s ≡ withTrades (bookOf s₀) so-far .users

@@ -38,8 +38,8 @@ losing [] = 0
 losing (c ∷ cs) = min 1 c + losing cs
 
 -- an accepted book with the places of the parties of its trades, cuts of its sales from a place up to another, and how many are not 0
-pub record Cutting (s sellers parties origins cuts : List ℕ) (from to lost : ℕ) : Type 0 where
-  pub book : BookIn s sellers parties
+pub record Cutting (s sellers buyers origins cuts : List ℕ) (from to lost : ℕ) : Type 0 where
+  pub book : BookIn s sellers buyers
   pub cuttable : CuttablePart (bookOf s .trades) origins cuts from to
   pub count : lost ≡ losing (part from to cuts)
 

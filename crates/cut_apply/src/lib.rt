@@ -121,7 +121,7 @@ fn move_all(
     book: &mut [u8],
     at: usize,
     sellers: &[u8; 256],
-    parties: &[u8; 256],
+    buyers: &[u8; 256],
     origins: &[u8; 256],
     cuts: &[u64; 256],
     from: usize,
@@ -129,7 +129,7 @@ fn move_all(
     places: &mut [u8],
     amounts: &mut [u64],
 )
-    requires { ⌜ Cutting (now book) (now sellers) (now parties) (now origins) (now cuts) from to (length (now places)) × (length (now amounts) ≡ length (now places)) ⌝ }
+    requires { ⌜ Cutting (now book) (now sellers) (now buyers) (now origins) (now cuts) from to (length (now places)) × (length (now amounts) ≡ length (now places)) ⌝ }
     requires { ⌜ at ≡ tradesAt (now book) ⌝ }
     ensures { λ _. ⌜ MovedBy (bookOf (now (book .entry))) (part from to (now (origins .entry))) (part from to (now (cuts .entry))) (now (places .exit)) (now (amounts .exit)) (now (book .exit)) ⌝ }
 {
@@ -138,7 +138,7 @@ fn move_all(
     while k < to {
         let place = indices::index(origins[k]);
         let seller = indices::index(sellers[place]);
-        let buyer = indices::index(parties[place]);
+        let buyer = indices::index(buyers[place]);
         let cut = cuts[k];
         lost = cut_sale(book, at, seller, buyer, place, cut, lost, places, amounts);
         k += 1;
@@ -151,7 +151,7 @@ fn apply_noting(
     book: &mut [u8],
     n: usize,
     sellers: &[u8; 256],
-    parties: &[u8; 256],
+    buyers: &[u8; 256],
     origins: &[u8; 256],
     cuts: &[u64; 256],
     from: usize,
@@ -159,7 +159,7 @@ fn apply_noting(
     places: &mut [u8],
     amounts: &mut [u64],
 )
-    requires { ⌜ Cutting (now book) (now sellers) (now parties) (now origins) (now cuts) from to (length (now places)) × (length (now amounts) ≡ length (now places)) ⌝ }
+    requires { ⌜ Cutting (now book) (now sellers) (now buyers) (now origins) (now cuts) from to (length (now places)) × (length (now amounts) ≡ length (now places)) ⌝ }
     requires { ⌜ n ≡ userCount (now book) ⌝ }
     ensures { λ _. ⌜ HeldAs (withTrades (bookOf (now (book .entry))) (loweredAt (part from to (now (origins .entry))) (part from to (now (cuts .entry))) (bookOf (now (book .entry)) .trades))) (now (book .exit)) ⌝ }
 {
@@ -168,7 +168,7 @@ fn apply_noting(
         book,
         at,
         sellers,
-        parties,
+        buyers,
         origins,
         cuts,
         from,
@@ -184,14 +184,14 @@ fn apply_few(
     book: &mut [u8],
     n: usize,
     sellers: &[u8; 256],
-    parties: &[u8; 256],
+    buyers: &[u8; 256],
     origins: &[u8; 256],
     cuts: &[u64; 256],
     from: usize,
     to: usize,
     lost: usize,
 )
-    requires { ⌜ Cutting (now book) (now sellers) (now parties) (now origins) (now cuts) from to lost × (lost ≤ 32) ⌝ }
+    requires { ⌜ Cutting (now book) (now sellers) (now buyers) (now origins) (now cuts) from to lost × (lost ≤ 32) ⌝ }
     requires { ⌜ n ≡ userCount (now book) ⌝ }
     ensures { λ _. ⌜ HeldAs (withTrades (bookOf (now (book .entry))) (loweredAt (part from to (now (origins .entry))) (part from to (now (cuts .entry))) (bookOf (now (book .entry)) .trades))) (now (book .exit)) ⌝ }
 {
@@ -201,7 +201,7 @@ fn apply_few(
         book,
         n,
         sellers,
-        parties,
+        buyers,
         origins,
         cuts,
         from,
@@ -216,14 +216,14 @@ fn apply_many(
     book: &mut [u8],
     n: usize,
     sellers: &[u8; 256],
-    parties: &[u8; 256],
+    buyers: &[u8; 256],
     origins: &[u8; 256],
     cuts: &[u64; 256],
     from: usize,
     to: usize,
     lost: usize,
 )
-    requires { ⌜ Cutting (now book) (now sellers) (now parties) (now origins) (now cuts) from to lost × (lost ≤ 256) ⌝ }
+    requires { ⌜ Cutting (now book) (now sellers) (now buyers) (now origins) (now cuts) from to lost × (lost ≤ 256) ⌝ }
     requires { ⌜ n ≡ userCount (now book) ⌝ }
     ensures { λ _. ⌜ HeldAs (withTrades (bookOf (now (book .entry))) (loweredAt (part from to (now (origins .entry))) (part from to (now (cuts .entry))) (bookOf (now (book .entry)) .trades))) (now (book .exit)) ⌝ }
 {
@@ -233,7 +233,7 @@ fn apply_many(
         book,
         n,
         sellers,
-        parties,
+        buyers,
         origins,
         cuts,
         from,
@@ -248,20 +248,20 @@ pub fn apply(
     book: &mut [u8],
     n: usize,
     sellers: &[u8; 256],
-    parties: &[u8; 256],
+    buyers: &[u8; 256],
     origins: &[u8; 256],
     cuts: &[u64; 256],
     from: usize,
     to: usize,
 )
-    requires { ⌜ BookIn (now book) (now sellers) (now parties) × CuttablePart (bookOf (now book) .trades) (now origins) (now cuts) from to ⌝ }
+    requires { ⌜ BookIn (now book) (now sellers) (now buyers) × CuttablePart (bookOf (now book) .trades) (now origins) (now cuts) from to ⌝ }
     requires { ⌜ n ≡ userCount (now book) ⌝ }
     ensures { λ _. ⌜ HeldAs (withTrades (bookOf (now (book .entry))) (loweredAt (part from to (now (origins .entry))) (part from to (now (cuts .entry))) (bookOf (now (book .entry)) .trades))) (now (book .exit)) ⌝ }
 {
     let lost = count_losing(cuts, from, to);
     if lost <= 32 {
-        apply_few(book, n, sellers, parties, origins, cuts, from, to, lost);
+        apply_few(book, n, sellers, buyers, origins, cuts, from, to, lost);
         return;
     }
-    apply_many(book, n, sellers, parties, origins, cuts, from, to, lost);
+    apply_many(book, n, sellers, buyers, origins, cuts, from, to, lost);
 }

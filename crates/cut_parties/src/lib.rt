@@ -1,6 +1,6 @@
 // Who is party to a trade standing below notified, by the places of the trades' parties: flags for all users, or the answer for one.
-// Everywhere `book` has n users and m trades, and `sellers` and `buyers` have the places of those who bear the risk of the sellers and the
-// buyers of its trades: "A member's trade there calls in the manager in place of the member".
+// Everywhere `book` has n users and m trades, and `bearing_sellers` and `bearing_buyers` have the places of those who bear the risk of the
+// sellers and the buyers of its trades: "A member's trade there calls in the manager in place of the member".
 ghost use mathlib.Core.Bool.{false, _&&_, _||_};
 ghost use mathlib.Core.Path.{_≡_};
 ghost use Prim.Native.Nat.{_<_};
@@ -19,11 +19,11 @@ pub fn fill_below_notified(
     book: &[u8],
     n: usize,
     m: usize,
-    sellers: &[u8; 256],
-    buyers: &[u8; 256],
+    bearing_sellers: &[u8; 256],
+    bearing_buyers: &[u8; 256],
     below_notified: &mut [bool; 64],
 )
-    requires { ⌜ BorneIn (now book) (now sellers) (now buyers) × (n ≡ userCount (now book)) × (m ≡ tradeCount (now book)) ⌝ }
+    requires { ⌜ BorneIn (now book) (now «bearing_sellers») (now «bearing_buyers») × (n ≡ userCount (now book)) × (m ≡ tradeCount (now book)) ⌝ }
     requires { ⌜ now «below_notified» ≡ replicate 64 false ⌝ }
     ensures { λ _. ⌜ CutFlags (usersIn (now (book .entry))) (tradesIn (now (book .entry))) (now («below_notified» .exit)) ⌝ }
 {
@@ -32,9 +32,9 @@ pub fn fill_below_notified(
     while i < m {
         let t = book_format::trade_at(book, at, i);
         let below = t.standing.0 < t.notified.0;
-        let seller = indices::index(sellers[i]);
+        let seller = indices::index(bearing_sellers[i]);
         below_notified[seller] = below_notified[seller] | below;
-        let buyer = indices::index(buyers[i]);
+        let buyer = indices::index(bearing_buyers[i]);
         below_notified[buyer] = below_notified[buyer] | below;
         i += 1;
     }
@@ -58,17 +58,17 @@ pub fn below_notified_at(
     book: &[u8],
     n: usize,
     m: usize,
-    sellers: &[u8; 256],
-    buyers: &[u8; 256],
+    bearing_sellers: &[u8; 256],
+    bearing_buyers: &[u8; 256],
     place: usize,
 ) -> bool
-    requires { ⌜ BorneIn (now book) (now sellers) (now buyers) × (n ≡ userCount (now book)) × (m ≡ tradeCount (now book)) × (place < n) ⌝ }
+    requires { ⌜ BorneIn (now book) (now «bearing_sellers») (now «bearing_buyers») × (n ≡ userCount (now book)) × (m ≡ tradeCount (now book)) × (place < n) ⌝ }
     ensures { λ r. ⌜ r ≡ cutBefore (idAt (usersIn (now (book .entry))) place) (tradesIn (now (book .entry))) ⌝ }
 {
     let at = book_format::trades_offset(book, n);
     let mut i = 0;
     while i < m {
-        if is_below_notified(book, at, i, sellers[i], buyers[i], place) {
+        if is_below_notified(book, at, i, bearing_sellers[i], bearing_buyers[i], place) {
             return true;
         }
         i += 1;

@@ -13,7 +13,7 @@ use Rattle.rules.specs.Day.{State, Line, lines, line, state, printedLevel}
 use Rattle.book_records.specs.declared.User.{User}
 use Rattle.book_records.specs.User.{alone, asUser, asAmounts}
 use Rattle.book_format.specs.Book.{bookOf, usersOf}
-use Rattle.book_format.proofs.Passed.{length-usersOf, passed}
+use Rattle.book_format.proofs.Passed.{length-usersOf}
 use Rattle.run_reduction.proofs.Steps.{accepted-day}
 use Rattle.risk_user.proofs.Rules.{called-own, level-own, state-own}
 use Rattle.book_format.specs.Places.{UserIn}
@@ -44,16 +44,16 @@ module _ {limits : Limits} {f : Prices} {s sums ps : List ℕ} {place : ℕ} {be
   member = omega (arith, length-usersOf s, p .inside)
 
   pub line-day : DayOf limits f s
-  line-day = accepted-day s (passed s (p .passes) .sound) (p .prices-are) (p .limits-in)
+  line-day = accepted-day (p .risk .opened) (p .risk .prices-are)
 
   pub line-user : UserIn s place
-  line-user = record { form = passed s (p .passes) .form; inside = p .inside }
+  line-user = record { form = p .risk .opened .accepted .held .form; inside = p .inside }
 
   -- the level is the user's
   pub line-level : {level : ℕ} → level ≡ levelAt limits f (usersOf s) sums ps place → level ≡ afternoonLevel limits (bookOf s) (getD (usersOf s) place nobody)
   unfolding bookOf
   line-level h =
-      h ∙ ap (λ (g : Prices). levelAt limits g (usersOf s) sums ps place) (p .prices-are) ∙ level-own (bookOf s) (p .twelve) (p .positions) place member limits
+      h ∙ ap (λ (g : Prices). levelAt limits g (usersOf s) sums ps place) (p .risk .prices-are) ∙ level-own (bookOf s) (p .risk .sums-are .twelve) (p .positions) place member limits
 
   -- and the state
   pub line-state : {level : ℕ} {called : Bool} {z : State} → level ≡ levelAt limits f (usersOf s) sums ps place → called ≡ (flaggedAt limits f (usersOf s) ps place || below)
@@ -62,5 +62,5 @@ module _ {limits : Limits} {f : Prices} {s sums ps : List ℕ} {place : ℕ} {be
   line-state {level} {called} h c z =
       let u = getD (usersOf s) place nobody in
       let called-is : called ≡ calledIn limits (bookOf s) u
-      = called-own (bookOf s) (p .twelve) (p .positions) place member limits (c ∙ ap (λ (g : Prices). flaggedAt limits g (usersOf s) ps place || below) (p .prices-are)) (p .below-is) in
+      = called-own (bookOf s) (p .risk .sums-are .twelve) (p .positions) place member limits (c ∙ ap (λ (g : Prices). flaggedAt limits g (usersOf s) ps place || below) (p .risk .prices-are)) (p .below-is) in
       z ∙ state-own limits (bookOf s) u (line-level h) called-is

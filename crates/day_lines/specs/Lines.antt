@@ -5,18 +5,15 @@ use mathlib.Core.Path.{_≡_}
 use Prim.Native.Nat.{ℕ, _<_}
 use lib.ListN.{getD}
 use Rattle.laws_sales.specs.Parties.{cutBefore}
-use Rattle.book_format.specs.Book.{bookOf, userCount, usersOf}
-use Rattle.book_format.specs.Questions.{bookNumber}
-use Rattle.book_sums.specs.Twelve.{Low, TwelveOf}
+use Rattle.book_format.specs.Book.{userCount, usersOf}
 use Rattle.book_records.specs.User.{asAmounts}
-use Rattle.risk_bearers.specs.Bearers.{tradesIn, usersIn}
+use Rattle.risk_bearers.specs.Bearers.{RiskIn, tradesIn, usersIn}
 use Rattle.risk_user.specs.UserAt.{PositionsOf}
 use Rattle.risk_user.specs.States.{stateOf}
 use Rattle.rules.specs.Areas.{Prices}
 use Rattle.rules.specs.Book.{Book, nobody}
 use Rattle.rules.specs.Levels.{Limits}
 use Rattle.rules.specs.Day as day
-use Rattle.units.specs.Limits.{LimitsInRange}
 use Rattle.day_lines.specs.declared.Line.{Line}
 
 -- by its fields
@@ -27,14 +24,9 @@ asLine l = record { id = l .id; state = stateOf (l .state); level = l .level .0;
 unfoldable pub lineIn : Limits → Book → ℕ → day.Line
 lineIn limits b i = getD (day.lines limits b) i (day.line limits b nobody)
 
--- an accepted book with a user at a place, limits and the book's prices; as the risk is borne, the sums and the positions of its users, and whether the user is party to a trade
--- standing below notified
+-- the risk of a book in bytes, and a user at a place; as the risk is borne, the positions of the users, and whether the user is party to a trade standing below notified
 pub record LineAsked (limits : Limits) (f : Prices) (s sums ps : List ℕ) (place : ℕ) (below : Bool) : Type 0 where
-  pub passes : bookNumber s ≡ 0
+  pub risk : RiskIn limits f s sums
   pub inside : place < userCount s
-  pub limits-in : LimitsInRange limits
-  pub prices-are : f ≡ bookOf s .header .prices
-  pub twelve : TwelveOf (usersIn s) (tradesIn s) sums
-  pub low : Low sums
   pub positions : PositionsOf (usersIn s) ps
   pub below-is : below ≡ cutBefore (getD (usersOf s) place nobody .party .id) (tradesIn s)

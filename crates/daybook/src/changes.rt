@@ -239,7 +239,7 @@ pub fn withdrawal(
         &mut sums,
     );
     let asked = call_admission::by_log(book, admission.number, true, log);
-    call_logged::withdrawal(book, asked, &sellers, &buyers, &sums, log)
+    call_logged::withdrawal(book, asked, &sellers, &buyers, log)
 }
 
 // Starts a log that holds a book, any bytes, with no entry, and answers 0; or leaves it and answers 19 where the log has another length or

@@ -128,16 +128,7 @@ pub fn level(
         &mut sums,
     );
     let limits = admission.limits;
-    call_level::level(
-        book,
-        admission.number,
-        limits,
-        &sellers,
-        &buyers,
-        &mut sums,
-        id,
-        afternoon,
-    )
+    call_level::level(book, admission.number, limits, &sums, id, afternoon)
 }
 
 // The morning level of a user.

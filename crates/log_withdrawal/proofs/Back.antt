@@ -137,7 +137,7 @@ pub record GivenTo (b : Book) (cs s : List ℕ) (k : ℕ) : Type 0 where
   pub same : map (λ u. u .party) users ≡ map (λ u. u .party) (b .users)
   pub rise : T (idsRise 0 users)
 
-module _ {s₀ sellers parties : List ℕ} (a : BookIn s₀ sellers parties) (cs : List ℕ) (within : T (raisesWithin cs (bookOf s₀ .trades))) (many : length cs ≡ length (bookOf s₀ .trades)) where
+module _ {s₀ sellers buyers : List ℕ} (a : BookIn s₀ sellers buyers) (cs : List ℕ) (within : T (raisesWithin cs (bookOf s₀ .trades))) (many : length cs ≡ length (bookOf s₀ .trades)) where
   pub given-start : GivenTo (bookOf s₀) cs s₀ 0
   given-start =
       let b = bookOf s₀ in
@@ -156,7 +156,7 @@ module _ {s₀ sellers parties : List ℕ} (a : BookIn s₀ sellers parties) (cs
       subst (λ (x : Book). HeldAs x s) (ap₂ (λ (us : List User) (xs : List Trade). record { header = b .header; users = us; trades = xs }) users whole) (p .held)
 
   -- the next one
-  module _ {s : List ℕ} {k : ℕ} (p : GivenTo (bookOf s₀) cs s k) (h : k < length (bookOf s₀ .trades)) {seller buyer cut : ℕ} (sells : seller ≡ getD sellers k 0) (buys : buyer ≡ getD parties k 0)
+  module _ {s : List ℕ} {k : ℕ} (p : GivenTo (bookOf s₀) cs s k) (h : k < length (bookOf s₀ .trades)) {seller buyer cut : ℕ} (sells : seller ≡ getD sellers k 0) (buys : buyer ≡ getD buyers k 0)
       (cut-is : cut ≡ getD cs k 0) where
     abbrev ts : List Trade
     ts = bookOf s₀ .trades
@@ -201,7 +201,7 @@ module _ {s₀ sellers parties : List ℕ} (a : BookIn s₀ sellers parties) (cs
     seller-low = omega (arith, users-are, party-low (λ r. r .seller) seller-known sellers (a .placed .of-sellers) sells)
 
     buyer-low : buyer < length (p .users)
-    buyer-low = omega (arith, users-are, party-low (λ r. r .buyer) buyer-known parties (a .placed .of-buyers) buys)
+    buyer-low = omega (arith, users-are, party-low (λ r. r .buyer) buyer-known buyers (a .placed .of-buyers) buys)
 
     raised-is : getD ns k noTrade ≡ raiseBy cut sale
     raised-is = raised-there cs ts k (omega arith) h ∙ ap (λ (c : ℕ). raiseBy c sale) (sym cut-is)
@@ -210,7 +210,7 @@ module _ {s₀ sellers parties : List ℕ} (a : BookIn s₀ sellers parties) (cs
     settled : settleOne sale (getD ns k noTrade) (p .users) ≡ backAt seller buyer (sale .terms .area) cut (p .users)
     settled =
         ap (λ (n : Trade). settleOne sale n (p .users)) raised-is
-        ∙ raised-at cut sale (p .users) 0 seller buyer (p .rise) seller-low buyer-low (id-now (λ r. r .seller) seller-known sellers (a .placed .of-sellers) sells) (id-now (λ r. r .buyer) buyer-known parties (a .placed .of-buyers) buys)
+        ∙ raised-at cut sale (p .users) 0 seller buyer (p .rise) seller-low buyer-low (id-now (λ r. r .seller) seller-known sellers (a .placed .of-sellers) sells) (id-now (λ r. r .buyer) buyer-known buyers (a .placed .of-buyers) buys)
 
     fronts : (getD (take k ns ++ drop k ts) k noTrade ≡ sale) × (set (take k ns ++ drop k ts) k (getD ns k noTrade) ≡ take (k + 1) ns ++ drop (k + 1) ts)
     fronts = fronts-next ns ts k h (length-raised cs ts)

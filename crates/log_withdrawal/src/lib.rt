@@ -65,10 +65,10 @@ pub fn give_back(
     at: usize,
     m: usize,
     sellers: &[u8; 256],
-    parties: &[u8; 256],
+    buyers: &[u8; 256],
     entry: &[u8],
 )
-    requires { ⌜ BookIn (now book) (now sellers) (now parties) × (at ≡ tradesAt (now book)) × (m ≡ tradeCount (now book)) ⌝ }
+    requires { ⌜ BookIn (now book) (now sellers) (now buyers) × (at ≡ tradesAt (now book)) × (m ≡ tradeCount (now book)) ⌝ }
     requires { ⌜ (1024 ≤ length (now entry)) × T (raisesWithin (cutsFrom m 0 (now entry)) (bookOf (now book) .trades)) ⌝ }
     ensures { λ _. ⌜ HeldAs (withdrawn (bookOf (now (book .entry))) (cutsFrom m 0 (now (entry .entry)))) (now (book .exit)) ⌝ }
 {
@@ -76,7 +76,7 @@ pub fn give_back(
     while k < m {
         let cut = fields::get_u32(entry, 4 * k);
         let seller = indices::index(sellers[k]);
-        let buyer = indices::index(parties[k]);
+        let buyer = indices::index(buyers[k]);
         give_back_at(book, at, seller, buyer, k, cut);
         k += 1;
     }

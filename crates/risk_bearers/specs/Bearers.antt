@@ -3,10 +3,13 @@ use Rattle.base.specs.Basics.{_≡_, List, ℕ, _+_, _*_, _<_, length, take, ge
 use Rattle.book_format.specs.Book.{bookOf, tradesOf, userCount, usersOf}
 use Rattle.book_format.specs.Held.{Accepted}
 use Rattle.book_parties.specs.Ids.{Padded, Placed, idsOf, placeIn}
-use Rattle.book_sums.specs.Twelve.{TwelveOf}
+use Rattle.book_questions.specs.Opened.{OpenedFigures}
+use Rattle.book_sums.specs.Twelve.{SumsOf, TwelveOf}
 use Rattle.laws_sales.specs.Borne.{borneBook}
+use Rattle.rules.specs.Areas.{Prices}
 use Rattle.rules.specs.Bearers.{bearer}
 use Rattle.rules.specs.Book.{Trade, User, noTrade, nobody}
+use Rattle.rules.specs.Levels.{Limits}
 
 -- ---- the book that bytes hold, as its risk is borne
 
@@ -20,6 +23,12 @@ tradesIn s = borneBook (bookOf s) .trades
 pub record BorneIn (s sellers buyers : List ℕ) : Type 0 where
   pub accepted : Accepted s
   pub placed : Placed (usersIn s) (tradesIn s) sellers buyers
+
+-- what levels and targets are asked of: a book that passed its questions, figures, its prices, and as the risk is borne the twelve sums of each user
+pub record RiskIn (limits : Limits) (f : Prices) (s sums : List ℕ) : Type 0 where
+  pub opened : OpenedFigures limits s
+  pub prices-are : f ≡ bookOf s .header .prices
+  pub sums-are : SumsOf (usersIn s) (tradesIn s) sums
 
 -- ---- by a table
 

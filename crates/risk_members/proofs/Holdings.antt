@@ -5,7 +5,7 @@ use Rattle.book_format.specs.Book.{bookOf, tradesOf, userCount, usersOf, versio
 use Rattle.book_format.specs.Held.{Accepted}
 use Rattle.book_records.specs.User.{alone, asAmounts, asUser}
 use Rattle.book_records.specs.declared.User as code
-use Rattle.book_sums.specs.Twelve.{TwelveOf}
+use Rattle.book_sums.specs.Twelve.{SumsOf, TwelveOf}
 use Rattle.laws.proofs.Members.{bought-members, sold-members}
 use Rattle.laws_sales.proofs.Alone.{own-risk}
 use Rattle.laws_sales.specs.Borne.{borneBook, borneSums, borneUser}
@@ -23,7 +23,7 @@ use Rattle.rules.specs.Levels.{holding}
 use Rattle.rules.specs.Levels as rules
 use Rattle.units.specs.Amounts.{net}
 use Rattle.units.specs.declared.Net.{Net}
-use Rattle.risk_members.specs.Members.{HoldingsOf, SumsOf}
+use Rattle.risk_members.specs.Members.{HoldingsOf}
 use Rattle.risk_members.specs.Sums.{HeldTo, HoldingRoom, Passed}
 use Rattle.risk_members.proofs.Members.{read-physical, read-position}
 use Rattle.risk_members.proofs.Sums.{count-end, count-start, sum-end, sum-room, sum-start}
@@ -88,7 +88,7 @@ module _ (s : List ℕ) (a : Accepted s) {place : ℕ} (h : place < userCount s)
     unfolding bookOf
     positions-plain = read-position u user e ∙ ap (λ (b : Book). getD (b .users) place nobody .position) same
 
-    pub held-plain : {sums : List ℕ} {r : Holdings} → SumsOf s sums → HeldWith sums place (asAmounts (u .physical)) (asAmounts (u .position)) r → HoldingsOf s place r
+    pub held-plain : {sums : List ℕ} {r : Holdings} → SumsOf (usersOf s) (tradesOf s) sums → HeldWith sums place (asAmounts (u .physical)) (asAmounts (u .position)) r → HoldingsOf s place r
     unfolding bookOf
     held-plain {sums} {r} p q = record {
       each = held-row (bookOf s) place (omega (arith, length-usersOf s)) (subst (λ (b : Book). TwelveOf (b .users) (b .trades) sums) same (p .twelve))

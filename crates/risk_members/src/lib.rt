@@ -10,17 +10,17 @@ ghost use mathlib.Core.Path.{_≡_};
 ghost use Prim.Native.Nat.{ℕ, _+_, _-_, _≤_, _<_, _^_};
 ghost use lib.Dec.{eqb};
 ghost use lib.ListN.{getD};
-ghost use Rattle.book_format.specs.Book.{userCount, usersOf, versionOf};
+ghost use Rattle.book_format.specs.Book.{tradesOf, userCount, usersOf, versionOf};
 ghost use Rattle.book_format.specs.Held.{Accepted};
 ghost use Rattle.book_format.specs.Places.{UserIn};
 ghost use Rattle.book_records.specs.User.{alone, asAmounts, asUser};
-ghost use Rattle.book_sums.specs.Twelve.{Low};
+ghost use Rattle.book_sums.specs.Twelve.{Low, SumsOf};
 ghost use Rattle.risk_bearers.specs.Bearers.{usersIn};
 ghost use Rattle.rules.specs.Areas.{managersIn};
 ghost use Rattle.rules.specs.Bearers.{bearer, borneSum};
 ghost use Rattle.rules.specs.Book.{nobody};
 ghost use Rattle.units.specs.Amounts.{net};
-ghost use Rattle.risk_members.specs.Members.{HoldingsOf, SumsOf};
+ghost use Rattle.risk_members.specs.Members.{HoldingsOf};
 ghost use Rattle.risk_members.specs.Sums.{AmountRoom, HeldTo, HoldingRoom, Next, SumTo};
 
 // ---- who bears the risk
@@ -81,7 +81,7 @@ fn with_sum(sums: &[u32; 768], k: usize, sum: Energy) -> Energy
 
 // What is held in an area with what the user at a place has there more.
 fn with_member(book: &[u8], sums: &[u32; 768], place: usize, area: usize, held: Holding) -> Holding
-    requires { ⌜ Accepted (now book) × SumsOf (now book) (now sums) × (place < userCount (now book)) × (area < 3) × HoldingRoom held ⌝ }
+    requires { ⌜ Accepted (now book) × SumsOf (usersOf (now book)) (tradesOf (now book)) (now sums) × (place < userCount (now book)) × (area < 3) × HoldingRoom held ⌝ }
     ensures { λ r. ⌜ ((id : ℕ) → eqb (bearer (getD (usersOf (now (book .entry))) place nobody) area) id ≡ true → HeldTo (now (book .entry)) id area place held → HeldTo (now (book .entry)) id area (place + 1) r) ⌝ }
 {
     let user = book_format::user_at(book, place);
@@ -106,7 +106,7 @@ fn with_member(book: &[u8], sums: &[u32; 768], place: usize, area: usize, held: 
 
 // What is held in an area by those of the n users whose risk the user of an id bears there.
 fn held_in(book: &[u8], sums: &[u32; 768], n: usize, id: u32, area: usize) -> Holding
-    requires { ⌜ Accepted (now book) × (managersIn (versionOf (now book)) ≡ true) × (n ≡ userCount (now book)) × (area < 3) × SumsOf (now book) (now sums) ⌝ }
+    requires { ⌜ Accepted (now book) × (managersIn (versionOf (now book)) ≡ true) × (n ≡ userCount (now book)) × (area < 3) × SumsOf (usersOf (now book)) (tradesOf (now book)) (now sums) ⌝ }
     ensures { λ r. ⌜ HeldTo (now (book .entry)) id area n r ⌝ }
 {
     let mut held = Holding {
@@ -127,7 +127,7 @@ fn held_in(book: &[u8], sums: &[u32; 768], n: usize, id: u32, area: usize) -> Ho
 
 // What the user at a place, of an id, holds with its members, in a version with managers.
 fn held_by(book: &[u8], sums: &[u32; 768], place: usize, id: u32) -> Holdings
-    requires { ⌜ Accepted (now book) × (managersIn (versionOf (now book)) ≡ true) × SumsOf (now book) (now sums) × (place < userCount (now book)) × (id ≡ getD (usersOf (now book)) place nobody .party .id) ⌝ }
+    requires { ⌜ Accepted (now book) × (managersIn (versionOf (now book)) ≡ true) × SumsOf (usersOf (now book)) (tradesOf (now book)) (now sums) × (place < userCount (now book)) × (id ≡ getD (usersOf (now book)) place nobody .party .id) ⌝ }
     ensures { λ r. ⌜ HoldingsOf (now (book .entry)) place r ⌝ }
 {
     let n = book_format::user_count(book) as usize;
@@ -143,7 +143,7 @@ fn held_by(book: &[u8], sums: &[u32; 768], place: usize, id: u32) -> Holdings
 
 // What the user at a place, whose record was read, holds as its risk is borne, given the sums of each user.
 pub fn holdings_of(book: &[u8], sums: &[u32; 768], place: usize, user: User) -> Holdings
-    requires { ⌜ Accepted (now book) × SumsOf (now book) (now sums) × (place < userCount (now book)) × (asUser user ≡ alone (getD (usersOf (now book)) place nobody)) ⌝ }
+    requires { ⌜ Accepted (now book) × SumsOf (usersOf (now book)) (tradesOf (now book)) (now sums) × (place < userCount (now book)) × (asUser user ≡ alone (getD (usersOf (now book)) place nobody)) ⌝ }
     ensures { λ r. ⌜ HoldingsOf (now (book .entry)) place r ⌝ }
 {
     if book_format::has_managers(book_format::version(book)) {

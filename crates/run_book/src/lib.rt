@@ -46,22 +46,22 @@ pub fn lost_of(standing: &[u64; 256], left: &mut [u64; 256], count: usize)
 // runs on in a copy of what stands, and takes off what was lost.
 fn run_listed(
     book: &mut [u8],
-    own_sellers: &[u8; 256],
-    own_buyers: &[u8; 256],
     sellers: &[u8; 256],
-    parties: &[u8; 256],
+    buyers: &[u8; 256],
+    bearing_sellers: &[u8; 256],
+    bearing_buyers: &[u8; 256],
     sums: &[u32; 768],
     starts: &[usize; 65],
     origins: &[u8; 256],
     standing: &[u64; 256],
     areas: &[u8; 256],
-    buyers: &[u8; 256],
+    sale_buyers: &[u8; 256],
     count: usize,
     day: Day,
 ) -> Totals
-    requires { ⌜ BookIn (now book) (now «own_sellers») (now «own_buyers») ⌝ }
-    requires { ⌜ Runnable (asLimits (day .limits)) (asPrices (day .prices)) (now book) (now sellers) (now parties) (now sums) ⌝ }
-    requires { ⌜ Listed (borneBook (bookOf (now book))) (now starts) (now origins) (now standing) (now areas) (now buyers) count ⌝ }
+    requires { ⌜ BookIn (now book) (now sellers) (now buyers) ⌝ }
+    requires { ⌜ Runnable (asLimits (day .limits)) (asPrices (day .prices)) (now book) (now «bearing_sellers») (now «bearing_buyers») (now sums) ⌝ }
+    requires { ⌜ Listed (borneBook (bookOf (now book))) (now starts) (now origins) (now standing) (now areas) (now «sale_buyers») count ⌝ }
     ensures { λ r. ⌜ RanIn (wholeRun (asLimits (day .limits)) (bookOf (now (book .entry)))) (now (book .exit)) r ⌝ }
 {
     let n = book_format::user_count(book) as usize;
@@ -69,7 +69,7 @@ fn run_listed(
     let mut positions = [0u32; 192];
     run_positions::fill_positions(book, n, &mut positions);
     let mut below_notified = [false; 64];
-    cut_parties::fill_below_notified(book, n, m, sellers, parties, &mut below_notified);
+    cut_parties::fill_below_notified(book, n, m, bearing_sellers, bearing_buyers, &mut below_notified);
     let mut eligible = [false; 64];
     let mut targets = [0u64; 64];
     run_targets::fill_targets(
@@ -93,31 +93,31 @@ fn run_listed(
         starts,
         &mut left,
         areas,
-        buyers,
+        sale_buyers,
         &mut positions,
         &mut eligible,
         &mut targets,
         day,
     );
     lost_of(standing, &mut left, count);
-    cut_apply::apply(book, n, own_sellers, own_buyers, origins, &left, 0, count);
+    cut_apply::apply(book, n, sellers, buyers, origins, &left, 0, count);
     totals
 }
 
-// Runs an accepted book, of whose trades the sellers and the buyers have these places (`own_sellers`, `own_buyers`) and those who bear
-// their risk these (`sellers`, `parties`), and whose users have these sums as their risk is borne: while some user that is short of cover
+// Runs an accepted book, of whose trades the sellers and the buyers have these places and those who bear their risk these
+// (`bearing_sellers`, `bearing_buyers`), and whose users have these sums as their risk is borne: while some user that is short of cover
 // has an own sale to cut, the one of the lowest id is reduced.
 pub fn run_book(
     book: &mut [u8],
-    own_sellers: &[u8; 256],
-    own_buyers: &[u8; 256],
     sellers: &[u8; 256],
-    parties: &[u8; 256],
+    buyers: &[u8; 256],
+    bearing_sellers: &[u8; 256],
+    bearing_buyers: &[u8; 256],
     sums: &[u32; 768],
     day: Day,
 ) -> Totals
-    requires { ⌜ BookIn (now book) (now «own_sellers») (now «own_buyers») ⌝ }
-    requires { ⌜ Runnable (asLimits (day .limits)) (asPrices (day .prices)) (now book) (now sellers) (now parties) (now sums) ⌝ }
+    requires { ⌜ BookIn (now book) (now sellers) (now buyers) ⌝ }
+    requires { ⌜ Runnable (asLimits (day .limits)) (asPrices (day .prices)) (now book) (now «bearing_sellers») (now «bearing_buyers») (now sums) ⌝ }
     ensures { λ r. ⌜ RanIn (wholeRun (asLimits (day .limits)) (bookOf (now (book .entry)))) (now (book .exit)) r ⌝ }
 {
     let n = book_format::user_count(book) as usize;
@@ -126,31 +126,31 @@ pub fn run_book(
     let mut origins = [0u8; 256];
     let mut standing = [0u64; 256];
     let mut areas = [0u8; 256];
-    let mut buyers = [0u8; 256];
+    let mut sale_buyers = [0u8; 256];
     let count = cut_lists::fill_lists(
         book,
         n,
         m,
-        sellers,
-        parties,
+        bearing_sellers,
+        bearing_buyers,
         &mut starts,
         &mut origins,
         &mut standing,
         &mut areas,
-        &mut buyers,
+        &mut sale_buyers,
     );
     run_listed(
         book,
-        own_sellers,
-        own_buyers,
         sellers,
-        parties,
+        buyers,
+        bearing_sellers,
+        bearing_buyers,
         sums,
         &starts,
         &origins,
         &standing,
         &areas,
-        &buyers,
+        &sale_buyers,
         count,
         day,
     )

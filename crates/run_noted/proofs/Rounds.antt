@@ -49,7 +49,7 @@ use Rattle.run_noted.specs.Noted.{NotedBy, OriginsIn}
 module _ {limits : Limits} {f : Prices} {s sums ss areaCodes bs : List ℕ} (q : RunOf limits f s sums ss areaCodes bs) where
   pub few-trades : length (bookOf s .trades) ≤ 256
   unfolding bookOf
-  few-trades = omega (arith, length-tradesOf s, q .form .trades)
+  few-trades = omega (arith, length-tradesOf s, q .risk .opened .accepted .held .form .trades)
 
   pub cuts-notable : {place : ℕ} (inside : place < userCount s) {b : Book} {ns ps ts : List ℕ} {es : List Bool} → Going limits (bookOf s) b ns ps ts es → {origins ws : List ℕ}
       → OriginsIn (borneBook (bookOf s)) ss origins → length ws ≡ 256

@@ -32,7 +32,7 @@ pub fn run_on(
     origins: &[u8; 256],
     standing: &mut [u64; 256],
     areas: &[u8; 256],
-    buyers: &[u8; 256],
+    sale_buyers: &[u8; 256],
     positions: &mut [u32; 192],
     eligible: &mut [bool; 64],
     targets: &mut [u64; 64],
@@ -40,7 +40,7 @@ pub fn run_on(
     log: &mut [u8],
     count: usize,
 ) -> Noted
-    requires { ⌜ RunOf (asLimits (day .limits)) (asPrices (day .prices)) (now book) (now sums) (now starts) (now areas) (now buyers) × (n ≡ userCount (now book)) ⌝ }
+    requires { ⌜ RunOf (asLimits (day .limits)) (asPrices (day .prices)) (now book) (now sums) (now starts) (now areas) (now «sale_buyers») × (n ≡ userCount (now book)) ⌝ }
     requires { ⌜ Going (asLimits (day .limits)) (bookOf (now book)) (bookOf (now book)) (now standing) (now positions) (now targets) (now eligible) ⌝ }
     requires { ⌜ OriginsIn (borneBook (bookOf (now book))) (now starts) (now origins) × (count ≤ 256) × (length (now log) ≡ 271668) ⌝ }
     ensures { λ r. ⌜ NotedBy (asLimits (day .limits)) (bookOf (now (book .entry))) count (now (log .entry)) (now (log .exit)) (now (standing .exit)) (r .totals) (r .count) (r .due) ⌝ }
@@ -64,7 +64,7 @@ pub fn run_on(
             starts,
             standing,
             areas,
-            buyers,
+            sale_buyers,
             positions,
             eligible,
             targets,
@@ -94,24 +94,24 @@ pub fn run_on(
 // who owes what are filled in, the run goes on in a copy of what stands, and what was lost is taken off.
 fn run_listed(
     book: &mut [u8],
-    own_sellers: &[u8; 256],
-    own_buyers: &[u8; 256],
     sellers: &[u8; 256],
-    parties: &[u8; 256],
+    buyers: &[u8; 256],
+    bearing_sellers: &[u8; 256],
+    bearing_buyers: &[u8; 256],
     sums: &[u32; 768],
     starts: &[usize; 65],
     origins: &[u8; 256],
     standing: &[u64; 256],
     areas: &[u8; 256],
-    buyers: &[u8; 256],
+    sale_buyers: &[u8; 256],
     sales: usize,
     day: Day,
     log: &mut [u8],
     count: usize,
 ) -> Noted
-    requires { ⌜ BookIn (now book) (now «own_sellers») (now «own_buyers») ⌝ }
-    requires { ⌜ Runnable (asLimits (day .limits)) (asPrices (day .prices)) (now book) (now sellers) (now parties) (now sums) ⌝ }
-    requires { ⌜ Listed (borneBook (bookOf (now book))) (now starts) (now origins) (now standing) (now areas) (now buyers) sales ⌝ }
+    requires { ⌜ BookIn (now book) (now sellers) (now buyers) ⌝ }
+    requires { ⌜ Runnable (asLimits (day .limits)) (asPrices (day .prices)) (now book) (now «bearing_sellers») (now «bearing_buyers») (now sums) ⌝ }
+    requires { ⌜ Listed (borneBook (bookOf (now book))) (now starts) (now origins) (now standing) (now areas) (now «sale_buyers») sales ⌝ }
     requires { ⌜ (count ≤ 256) × (length (now log) ≡ 271668) ⌝ }
     ensures { λ r. ⌜ NotedIn (asLimits (day .limits)) (bookOf (now (book .entry))) count (now (log .entry)) (now (log .exit)) (now (book .exit)) (r .totals) (r .count) (r .due) ⌝ }
 {
@@ -120,7 +120,7 @@ fn run_listed(
     let mut positions = [0u32; 192];
     run_positions::fill_positions(book, n, &mut positions);
     let mut below_notified = [false; 64];
-    cut_parties::fill_below_notified(book, n, m, sellers, parties, &mut below_notified);
+    cut_parties::fill_below_notified(book, n, m, bearing_sellers, bearing_buyers, &mut below_notified);
     let mut eligible = [false; 64];
     let mut targets = [0u64; 64];
     run_targets::fill_targets(
@@ -145,7 +145,7 @@ fn run_listed(
         origins,
         &mut left,
         areas,
-        buyers,
+        sale_buyers,
         &mut positions,
         &mut eligible,
         &mut targets,
@@ -154,26 +154,26 @@ fn run_listed(
         count,
     );
     run_book::lost_of(standing, &mut left, sales);
-    cut_apply::apply(book, n, own_sellers, own_buyers, origins, &left, 0, sales);
+    cut_apply::apply(book, n, sellers, buyers, origins, &left, 0, sales);
     noted
 }
 
-// Runs an accepted book, of whose trades the sellers and the buyers have these places (`own_sellers`, `own_buyers`) and those who bear
-// their risk these (`sellers`, `parties`), and whose users have these sums as their risk is borne; notes its reductions in a log of
+// Runs an accepted book, of whose trades the sellers and the buyers have these places and those who bear their risk these
+// (`bearing_sellers`, `bearing_buyers`), and whose users have these sums as their risk is borne; notes its reductions in a log of
 // `count` entries.
 pub fn run_book(
     book: &mut [u8],
-    own_sellers: &[u8; 256],
-    own_buyers: &[u8; 256],
     sellers: &[u8; 256],
-    parties: &[u8; 256],
+    buyers: &[u8; 256],
+    bearing_sellers: &[u8; 256],
+    bearing_buyers: &[u8; 256],
     sums: &[u32; 768],
     day: Day,
     log: &mut [u8],
     count: usize,
 ) -> Noted
-    requires { ⌜ BookIn (now book) (now «own_sellers») (now «own_buyers») ⌝ }
-    requires { ⌜ Runnable (asLimits (day .limits)) (asPrices (day .prices)) (now book) (now sellers) (now parties) (now sums) ⌝ }
+    requires { ⌜ BookIn (now book) (now sellers) (now buyers) ⌝ }
+    requires { ⌜ Runnable (asLimits (day .limits)) (asPrices (day .prices)) (now book) (now «bearing_sellers») (now «bearing_buyers») (now sums) ⌝ }
     requires { ⌜ (count ≤ 256) × (length (now log) ≡ 271668) ⌝ }
     ensures { λ r. ⌜ NotedIn (asLimits (day .limits)) (bookOf (now (book .entry))) count (now (log .entry)) (now (log .exit)) (now (book .exit)) (r .totals) (r .count) (r .due) ⌝ }
 {
@@ -183,31 +183,31 @@ pub fn run_book(
     let mut origins = [0u8; 256];
     let mut standing = [0u64; 256];
     let mut areas = [0u8; 256];
-    let mut buyers = [0u8; 256];
+    let mut sale_buyers = [0u8; 256];
     let sales = cut_lists::fill_lists(
         book,
         n,
         m,
-        sellers,
-        parties,
+        bearing_sellers,
+        bearing_buyers,
         &mut starts,
         &mut origins,
         &mut standing,
         &mut areas,
-        &mut buyers,
+        &mut sale_buyers,
     );
     run_listed(
         book,
-        own_sellers,
-        own_buyers,
         sellers,
-        parties,
+        buyers,
+        bearing_sellers,
+        bearing_buyers,
         sums,
         &starts,
         &origins,
         &standing,
         &areas,
-        &buyers,
+        &sale_buyers,
         sales,
         day,
         log,

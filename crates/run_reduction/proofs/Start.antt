@@ -2,7 +2,7 @@
 use Rattle.base.specs.Basics.{_≡_, _∙_, List, ℕ, length, take}
 use Rattle.book_format.specs.Book.{bookOf}
 use Rattle.laws_sales.specs.Borne.{borneBook}
-use Rattle.risk_bearers.specs.Bearers.{tradesIn, usersIn}
+use Rattle.risk_bearers.specs.Bearers.{RiskIn, tradesIn, usersIn}
 use Rattle.laws.proofs.Trades.{lowered-refl}
 use Rattle.rules.specs.Areas.{Prices}
 use Rattle.rules.specs.Book.{Book}
@@ -12,7 +12,7 @@ use Rattle.run_state.proofs.Grouped.{sales-listed, standing-listed}
 use Rattle.risk_user.specs.UserAt.{PositionsOf}
 use Rattle.run_state.specs.Going.{SalesIn, StandingIn}
 use Rattle.run_reduction.specs.Reductions.{Reached, RunOf}
-use Rattle.run_reduction.specs.Books.{Listed, Runnable}
+use Rattle.run_reduction.specs.Books.{Listed}
 
 -- ---- the lists of a book
 
@@ -28,26 +28,17 @@ module _ {b : Book} {ss origins ns areaCodes bs : List ℕ} {count : ℕ} (l : L
 
 -- ---- an accepted book
 
-module _ {limits : Limits} {f : Prices} {s sellers parties sums : List ℕ} (r : Runnable limits f s sellers parties sums) where
+module _ {limits : Limits} {f : Prices} {s sums : List ℕ} (r : RiskIn limits f s sums) where
   module _ {ss origins ns areaCodes bs : List ℕ} {count : ℕ} (l : Listed (borneBook (bookOf s)) ss origins ns areaCodes bs count) where
     -- what stays
     pub run-stays : RunOf limits f s sums ss areaCodes bs
-    run-stays =
-        record {
-          form = r .book .accepted .held .form;
-          sound = r .book .accepted .sound;
-          limits-in = r .limits-in;
-          prices-are = r .prices-are;
-          twelve = r .twelve;
-          low = r .low;
-          sales = listed-sales l;
-        }
+    run-stays = record { risk = r; sales = listed-sales l }
 
     -- no reduction has been made yet
     pub first-reached : {ms ps : List ℕ} → take count ms ≡ take count ns → length ms ≡ 256 → PositionsOf (usersIn s) ps → length ps ≡ 192 → Reached (bookOf s) (bookOf s) ms ps
     first-reached e long p room =
         record {
-          sound = r .book .accepted .sound;
+          sound = r .opened .accepted .sound;
           lowered = lowered-refl (bookOf s .trades);
           borne = lowered-refl (tradesIn s);
           same = with-same (bookOf s);

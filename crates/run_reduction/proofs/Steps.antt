@@ -12,7 +12,6 @@ use Rattle.base.proofs.Linear.{by-order}
 use Rattle.base.specs.Parts.{negPart, posPart}
 use Rattle.laws.proofs.Bounds.{blocked-le}
 use Rattle.laws.proofs.Trades.{framed}
-use Rattle.laws.specs.Sound.{Sound}
 use Rattle.rules.specs.Areas.{Prices}
 use Rattle.rules.specs.Book.{at, Book, Header, Party, Trade, User, noTrade, nobody}
 use Rattle.rules.specs.Levels.{Limits}
@@ -39,33 +38,33 @@ use Rattle.laws_sales.specs.Reduced.{ownCuts, ownSales}
 use Rattle.laws_sales.specs.Sales.{less, salesOf, shortAt}
 use Rattle.units.proofs.Amounts.{parts-net}
 use Rattle.units.specs.Prices.{InRange}
-use Rattle.units.specs.Limits.{LimitsInRange}
+use Rattle.book_questions.specs.Opened.{OpenedFigures}
 
 -- ---- an accepted book
 
-module _ {f : Prices} (s : List ℕ) (sound : Sound (bookOf s)) (prices-are : f ≡ bookOf s .header .prices) where
+module _ {limits : Limits} {f : Prices} {s : List ℕ} (o : OpenedFigures limits s) (prices-are : f ≡ bookOf s .header .prices) where
   day-prices : InRange f
-  day-prices = subst InRange (sym prices-are) (prices-in (bookOf s) sound)
+  day-prices = subst InRange (sym prices-are) (prices-in (bookOf s) (o .accepted .sound))
 
   -- what levels are asked by
-  pub accepted-day : {limits : Limits} → LimitsInRange limits → DayOf limits f s
+  pub accepted-day : DayOf limits f s
   unfolding bookOf nobody
-  accepted-day l =
+  accepted-day =
       record {
-        limits-in = l;
+        limits-in = o .limits-in;
         prices-in = day-prices;
         blocked-most = λ i.
             by-order i (length (usersOf s))
-            (λ h. blocked-le (getD (usersOf s) i nobody) (all-at userValid (usersOf s) (sound .users) i nobody h))
+            (λ h. blocked-le (getD (usersOf s) i nobody) (all-at userValid (usersOf s) (o .accepted .sound .users) i nobody h))
             (λ h. let e : getD (usersOf s) i nobody .blocked ≡ 0 = ap (λ (u : User). u .blocked) (List·getD-eq-default (usersOf s) nobody {n = i} h) in omega (arith, e));
       }
 
 module _ {limits : Limits} {f : Prices} {s sums ss areaCodes bs : List ℕ} (q : RunOf limits f s sums ss areaCodes bs) where
   pub run-prices : InRange f
-  run-prices = day-prices s (q .sound) (q .prices-are)
+  run-prices = day-prices (q .risk .opened) (q .risk .prices-are)
 
   pub run-day : DayOf limits f s
-  run-day = accepted-day s (q .sound) (q .prices-are) (q .limits-in)
+  run-day = accepted-day (q .risk .opened) (q .risk .prices-are)
 
   -- ---- the user at a place
 
@@ -93,13 +92,13 @@ module _ {limits : Limits} {f : Prices} {s sums ss areaCodes bs : List ℕ} (q :
 
     module _ {b : Book} {ns ps : List ℕ} (h : Reached (bookOf s) b ns ps) where
       now : Stays (bookOf s) b
-      now = stays (bookOf s) b (q .sound) (h .lowered) (h .same)
+      now = stays (bookOf s) b (q .risk .opened .accepted .sound) (h .lowered) (h .same)
 
       pub member-in : place < length (b .users)
       member-in = omega (arith, users-many now, member-first, members-borne (bookOf s))
 
       pub members-few : length (b .users) ≤ 64
-      members-few = omega (arith, users-many now, members-borne (bookOf s), length-usersIn s, q .form .users)
+      members-few = omega (arith, users-many now, members-borne (bookOf s), length-usersIn s, q .risk .opened .accepted .held .form .users)
 
       alike : Alike (borneBook (bookOf s)) (borneBook b)
       alike = alike-borne now (framed (h .borne))
@@ -197,7 +196,7 @@ module _ {limits : Limits} {f : Prices} {s sums ss areaCodes bs : List ℕ} (q :
       short-is area l = ap (λ z. ltb 0 (negPart z)) (h .positions .each place area borne-in l ∙ ap (λ (u : User). at (u .position) area) (member-borne b place member-in))
 
       pub prices-same : f ≡ b .header .prices
-      prices-same = q .prices-are ∙ ap (λ (x : Header). x .prices) (sym (now .header))
+      prices-same = q .risk .prices-are ∙ ap (λ (x : Header). x .prices) (sym (now .header))
 
       pub cuts-own : (asked : ℕ) → cutsOf f (shortIn ps place) asked (part (getD ss place 0) (getD ss (place + 1) 0) ns) (part (getD ss place 0) (getD ss (place + 1) 0) areaCodes)
           ≡ ownCuts (borneBook b) (borneUser (b .users) (getD (b .users) place nobody)) asked

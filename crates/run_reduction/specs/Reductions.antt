@@ -1,19 +1,16 @@
 -- A reduction on arrays: the room that it needs, what stays through it, and the book that it starts from. Assumes nothing.
 use Rattle.base.specs.Basics.{_≡_, Bool, List, ℕ, _+_, _*_, _≤_, _<_, _^_, ltb, length, getD}
 use Rattle.book_format.specs.Book.{bookOf}
-use Rattle.book_format.specs.Questions.{Formed}
 use Rattle.base.specs.Parts.{negPart}
 use Rattle.laws.specs.Sound.{Sound}
 use Rattle.laws.specs.Trades.{Lowered, Pairwise}
-use Rattle.book_sums.specs.Twelve.{Low, TwelveOf}
 use Rattle.laws_sales.specs.Borne.{borneBook}
-use Rattle.risk_bearers.specs.Bearers.{tradesIn, usersIn}
+use Rattle.risk_bearers.specs.Bearers.{RiskIn}
 use Rattle.risk_user.specs.UserAt.{PositionsOf, positionIn}
 use Rattle.rules.specs.Areas.{Prices}
 use Rattle.rules.specs.Book.{Book}
 use Rattle.rules.specs.Levels.{Limits}
 use Rattle.rules.specs.Reduction.{withTrades}
-use Rattle.units.specs.Limits.{LimitsInRange}
 use Rattle.run_state.specs.Going.{SalesIn, StandingIn}
 
 -- ---- numbers
@@ -34,14 +31,9 @@ pub record Reducible (place from to : ℕ) (areas bs ps : List ℕ) : Type 0 whe
 
 -- ---- books
 
--- what stays: the bytes of an accepted book, limits and prices; as the risk is borne, the twelve sums of each user, and where the own sales of each start, their areas and the places of their buyers
+-- what stays: the risk of a book in bytes, and as it is borne where the own sales of each user start, their areas and the places of their buyers
 pub record RunOf (limits : Limits) (f : Prices) (s sums ss areaCodes bs : List ℕ) : Type 0 where
-  pub form : Formed s
-  pub sound : Sound (bookOf s)
-  pub limits-in : LimitsInRange limits
-  pub prices-are : f ≡ bookOf s .header .prices
-  pub twelve : TwelveOf (usersIn s) (tradesIn s) sums
-  pub low : Low sums
+  pub risk : RiskIn limits f s sums
   pub sales : SalesIn (borneBook (bookOf s)) ss areaCodes bs
 
 -- what stands and the positions are those of the book b as its risk is borne, to which reductions of the book o have led

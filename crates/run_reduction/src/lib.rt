@@ -57,7 +57,7 @@ fn settle_sale(
 pub fn settle(
     standing: &mut [u64; 256],
     areas: &[u8; 256],
-    buyers: &[u8; 256],
+    sale_buyers: &[u8; 256],
     cuts: &[u64; 256],
     positions: &mut [u32; 192],
     place: usize,
@@ -66,9 +66,9 @@ pub fn settle(
     to: usize,
 ) -> Tally
     requires { ⌜ InRange (asPrices prices) × Sales (now standing) (now areas) from to × Takeable (now standing) (now cuts) from to ⌝ }
-    requires { ⌜ Movable place from to (now areas) (now buyers) (now cuts) (now positions) ⌝ }
+    requires { ⌜ Movable place from to (now areas) (now «sale_buyers») (now cuts) (now positions) ⌝ }
     ensures { λ _. ⌜ now (standing .exit) ≡ sets (now (standing .entry)) from (less (part from to (now (cuts .entry))) (part from to (now (standing .entry)))) ⌝ }
-    ensures { λ _. ⌜ now (positions .exit) ≡ movedAll place (part from to (now (buyers .entry))) (part from to (now (areas .entry))) (part from to (now (cuts .entry))) (now (positions .entry)) ⌝ }
+    ensures { λ _. ⌜ now (positions .exit) ≡ movedAll place (part from to (now («sale_buyers» .entry))) (part from to (now (areas .entry))) (part from to (now (cuts .entry))) (now (positions .entry)) ⌝ }
     ensures { λ r. ⌜ ((ss : List Trade) → map (λ s. s .terms .area) ss ≡ part from to (now (areas .entry))
         → asTally r ≡ tallyAll (asPrices prices) (part from to (now (cuts .entry))) ss nothing) ⌝ }
 {
@@ -83,7 +83,7 @@ pub fn settle(
             i,
             cut,
             place,
-            buyers[i],
+            sale_buyers[i],
             areas[i],
             prices,
         );
@@ -99,7 +99,7 @@ pub fn settle(
 pub fn reduce(
     standing: &mut [u64; 256],
     areas: &[u8; 256],
-    buyers: &[u8; 256],
+    sale_buyers: &[u8; 256],
     positions: &mut [u32; 192],
     cuts: &mut [u64; 256],
     rests: &mut [u64; 256],
@@ -109,12 +109,12 @@ pub fn reduce(
     from: usize,
     to: usize,
 ) -> Tally
-    requires { ⌜ InRange (asPrices prices) × Sales (now standing) (now areas) from to × Reducible place from to (now areas) (now buyers) (now positions) ⌝ }
+    requires { ⌜ InRange (asPrices prices) × Sales (now standing) (now areas) from to × Reducible place from to (now areas) (now «sale_buyers») (now positions) ⌝ }
     requires { ⌜ NoCuts (now cuts) from to × (length (now rests) ≡ 256) ⌝ }
     ensures { λ _. ⌜ now (cuts .exit) ≡ sets (now (cuts .entry)) from
         (cutsOf (asPrices prices) (shortIn (now (positions .entry)) place) (asked .0) (part from to (now (standing .entry))) (part from to (now (areas .entry)))) ⌝ }
     ensures { λ _. ⌜ now (standing .exit) ≡ sets (now (standing .entry)) from (less (part from to (now (cuts .exit))) (part from to (now (standing .entry)))) ⌝ }
-    ensures { λ _. ⌜ now (positions .exit) ≡ movedAll place (part from to (now (buyers .entry))) (part from to (now (areas .entry))) (part from to (now (cuts .exit))) (now (positions .entry)) ⌝ }
+    ensures { λ _. ⌜ now (positions .exit) ≡ movedAll place (part from to (now («sale_buyers» .entry))) (part from to (now (areas .entry))) (part from to (now (cuts .exit))) (now (positions .entry)) ⌝ }
     ensures { λ r. ⌜ ((ss : List Trade) → map (λ s. s .terms .area) ss ≡ part from to (now (areas .entry))
         → asTally r ≡ tallyAll (asPrices prices) (part from to (now (cuts .exit))) ss nothing) ⌝ }
     ensures { λ _. ⌜ length (now (rests .exit)) ≡ 256 ⌝ }
@@ -134,7 +134,7 @@ pub fn reduce(
     settle(
         standing,
         areas,
-        buyers,
+        sale_buyers,
         cuts,
         positions,
         place,

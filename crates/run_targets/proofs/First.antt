@@ -69,18 +69,18 @@ called-in limits f u h below e t =
     go false false true r = refl
     go false false false r = refl
 
-module _ {f : Prices} {n : ℕ} {s sums ps ss ns : List ℕ} {flags : List Bool} (p : Opening f n s sums ps ss ns flags) where
+module _ {limits : Limits} {f : Prices} {n : ℕ} {s sums ps ss ns : List ℕ} {flags : List Bool} (p : Opening limits f n s sums ps ss ns flags) where
   -- the users are n, at most 64
   pub member-in : {i : ℕ} → i < n → i < length (usersIn s)
   member-in h = omega (arith, length-usersIn s, p .users-are)
 
   pub member-few : {i : ℕ} → i < length (usersIn s) → i < 64
-  member-few h = omega (arith, length-usersIn s, p .form .users)
+  member-few h = omega (arith, length-usersIn s, p .risk .opened .accepted .held .form .users)
 
   pub members-end : {i : ℕ} → n ≤ i → length (bookOf s .users) ≤ i
   members-end h = omega (arith, members-borne (bookOf s), length-usersIn s, p .users-are)
 
-module _ {f : Prices} {n : ℕ} {s sums ps ss ns : List ℕ} {flags : List Bool} (p : Opening f n s sums ps ss ns flags) (i : ℕ) (k : i < length (usersIn s)) where
+module _ {limits : Limits} {f : Prices} {n : ℕ} {s sums ps ss ns : List ℕ} {flags : List Bool} (p : Opening limits f n s sums ps ss ns flags) (i : ℕ) (k : i < length (usersIn s)) where
   -- where the user's own sales start and end
   pub start-is : getD ss i 0 ≡ starts (borneBook (bookOf s)) i
   start-is = p .starts-at i (omega arith)
@@ -97,22 +97,23 @@ module _ {f : Prices} {n : ℕ} {s sums ps ss ns : List ℕ} {flags : List Bool}
       e ∙ ap₂ (λ (a b : ℕ). any (λ m. ltb 0 m) (part a b ns)) start-is end-is ∙ ap (any (λ m. ltb 0 m)) (p .standing .each i k)
       ∙ ap (λ (q : Party). any (λ m. ltb 0 m) (standings (tradesIn s) (q .id))) (party-borne (bookOf s) i) ∙ sym (has-eligible-sales (bookOf s) (memberAt (bookOf s) i))
 
-  pub first-is : (limits : Limits) {left : Bool} → left ≡ hasEligible (bookOf s) (memberAt (bookOf s) i)
+  pub first-is : {left : Bool} → left ≡ hasEligible (bookOf s) (memberAt (bookOf s) i)
       → owedIf (flaggedAt limits f (usersOf s) ps i) left (getD flags i false) (targetAt limits f (usersOf s) sums ps i) ≡ owed limits (bookOf s) (memberAt (bookOf s) i)
   unfolding owedIf bookOf due
-  first-is limits {left} e =
+  first-is {left} e =
       let b = bookOf s in
+      let twelve = p .risk .sums-are .twelve in
       let u = memberAt b i in
       let l : i < length (b .users) = omega (arith, members-borne b) in
-      let t = stays-first b (p .sound) in
-      let a = alike-first b (p .sound) in
+      let t = stays-first b (p .risk .opened .accepted .sound) in
+      let a = alike-first b (p .risk .opened .accepted .sound) in
       let g = b .header .prices in
       let below = cutBefore (u .party .id) (tradesIn s) in
       let called = flaggedFrom limits g u (holding b u) || below in
       let flag : flaggedAt limits f (usersOf s) ps i ≡ flaggedFrom limits g u (holding b u)
-      = ap (λ (x : Prices). flaggedAt limits x (usersOf s) ps i) (p .prices-are) ∙ flagged-is t a (p .twelve) (p .positions) i l limits in
+      = ap (λ (x : Prices). flaggedAt limits x (usersOf s) ps i) (p .risk .prices-are) ∙ flagged-is t a twelve (p .positions) i l limits in
       let goal : targetAt limits f (usersOf s) sums ps i ≡ owedCalled limits b u
-      = ap (λ (x : Prices). targetAt limits x (usersOf s) sums ps i) (p .prices-are) ∙ target-is t a (p .twelve) (p .positions) i l limits in
+      = ap (λ (x : Prices). targetAt limits x (usersOf s) sums ps i) (p .risk .prices-are) ∙ target-is t a twelve (p .positions) i l limits in
       ap (λ (x : Bool). cond x (cond (flaggedAt limits f (usersOf s) ps i || getD flags i false) (targetAt limits f (usersOf s) sums ps i) 0) 0) e
       ∙ ap₂ (λ (x y : Bool). cond (hasEligible b u) (cond (x || y) (targetAt limits f (usersOf s) sums ps i) 0) 0) flag
       (p .below .each i k ∙ ap (λ (q : Party). cutBefore (q .id) (tradesIn s)) (party-borne b i))

@@ -2,12 +2,11 @@
 use Rattle.base.specs.Basics.{_≡_, Bool, cond, _||_, List, ℕ, _≤_, _<_, length, getD}
 use Rattle.book_format.specs.Book.{bookOf, userCount}
 use Rattle.book_format.specs.Questions.{Formed}
-use Rattle.laws.specs.Sound.{Sound}
 use Rattle.rules.specs.Areas.{Prices}
+use Rattle.rules.specs.Levels.{Limits}
 use Rattle.laws_sales.specs.Borne.{borneBook}
-use Rattle.risk_bearers.specs.Bearers.{tradesIn, usersIn}
+use Rattle.risk_bearers.specs.Bearers.{RiskIn, tradesIn, usersIn}
 use Rattle.risk_user.specs.UserAt.{PositionsOf}
-use Rattle.book_sums.specs.Twelve.{TwelveOf}
 use Rattle.cut_parties.specs.Flags.{CutFlags}
 use Rattle.run_state.specs.Going.{StandingIn}
 use Rattle.laws_sales.specs.Groups.{starts}
@@ -25,13 +24,10 @@ pub record BuyersIn (s bs : List ℕ) (from to : ℕ) : Type 0 where
 unfoldable pub owedIf : Bool → Bool → Bool → ℕ → ℕ
 owedIf flagged left below target = cond left (cond (flagged || below) target 0) 0
 
--- the arrays of an accepted book in bytes, as its risk is borne: prices, sums and positions, where the own sales of each user start and what stands of them, and flags of trades standing below notified
-pub record Opening (f : Prices) (n : ℕ) (s sums ps ss ns : List ℕ) (flags : List Bool) : Type 0 where
-  pub form : Formed s
-  pub sound : Sound (bookOf s)
+-- the arrays of a book in bytes, as its risk is borne: positions, where the own sales of each user start and what stands of them, and flags of trades standing below notified
+pub record Opening (limits : Limits) (f : Prices) (n : ℕ) (s sums ps ss ns : List ℕ) (flags : List Bool) : Type 0 where
+  pub risk : RiskIn limits f s sums
   pub users-are : n ≡ userCount s
-  pub prices-are : f ≡ bookOf s .header .prices
-  pub twelve : TwelveOf (usersIn s) (tradesIn s) sums
   pub positions : PositionsOf (usersIn s) ps
   pub starts-at : (i : ℕ) → i ≤ length (usersIn s) → getD ss i 0 ≡ starts (borneBook (bookOf s)) i
   pub few : starts (borneBook (bookOf s)) (length (usersIn s)) ≤ 256

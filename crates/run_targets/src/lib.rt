@@ -72,8 +72,8 @@ pub fn fill_targets(
     targets: &mut [u64; 64],
     day: Day,
 )
-    requires { ⌜ DayOf (asLimits (day .limits)) (asPrices (day .prices)) (now book) × Low (now sums) ⌝ }
-    requires { ⌜ Opening (asPrices (day .prices)) n (now book) (now sums) (now positions) (now starts) (now standing) (now «below_notified») × (length (now targets) ≡ 64) × (length (now eligible) ≡ 64) ⌝ }
+    requires { ⌜ DayOf (asLimits (day .limits)) (asPrices (day .prices)) (now book) ⌝ }
+    requires { ⌜ Opening (asLimits (day .limits)) (asPrices (day .prices)) n (now book) (now sums) (now positions) (now starts) (now standing) (now «below_notified») × (length (now targets) ≡ 64) × (length (now eligible) ≡ 64) ⌝ }
     ensures { λ _. ⌜ OwedOf (asLimits (day .limits)) (bookOf (now (book .entry))) (now (targets .exit)) (now (eligible .exit)) × (length (now (targets .exit)) ≡ 64) × (length (now (eligible .exit)) ≡ 64) ⌝ }
 {
     let mut i = 0;
@@ -120,7 +120,7 @@ pub fn look_again(
     book: &[u8],
     sums: &[u32; 768],
     positions: &[u32; 192],
-    buyers: &[u8; 256],
+    sale_buyers: &[u8; 256],
     cuts: &[u64; 256],
     eligible: &[bool; 64],
     targets: &mut [u64; 64],
@@ -129,15 +129,15 @@ pub fn look_again(
     to: usize,
     day: Day,
 ) -> usize
-    requires { ⌜ DayOf (asLimits (day .limits)) (asPrices (day .prices)) (now book) × BuyersIn (now book) (now buyers) from to × Low (now sums) × (length (now cuts) ≡ 256) × (length (now targets) ≡ 64) ⌝ }
+    requires { ⌜ DayOf (asLimits (day .limits)) (asPrices (day .prices)) (now book) × BuyersIn (now book) (now «sale_buyers») from to × Low (now sums) × (length (now cuts) ≡ 256) × (length (now targets) ≡ 64) ⌝ }
     ensures { λ r. ⌜ LookedAgain (targetAt (asLimits (day .limits)) (asPrices (day .prices)) (usersOf (now (book .entry))) (now (sums .entry)) (now (positions .entry))) (now (eligible .entry))
-        (part from to (now (buyers .entry))) (part from to (now (cuts .entry))) (now (targets .entry)) (now (targets .exit)) r × (r ≤ least) ⌝ }
+        (part from to (now («sale_buyers» .entry))) (part from to (now (cuts .entry))) (now (targets .entry)) (now (targets .exit)) r × (r ≤ least) ⌝ }
 {
     let mut low = least;
     let mut i = from;
     while i < to {
         if 0 < cuts[i] {
-            let place = indices::index(buyers[i]);
+            let place = indices::index(sale_buyers[i]);
             low = look_at(book, sums, positions, eligible, targets, place, low, day);
         }
         i += 1;

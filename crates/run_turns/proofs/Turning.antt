@@ -54,10 +54,10 @@ module _ {limits : Limits} {f : Prices} {s sums ss areaCodes bs : List ℕ} (q :
   unfolding bookOf
   buyers-in =
       record {
-        form = q .form;
+        form = q .risk .opened .accepted .held .form;
         few = part-few q inside;
         room = q .sales .buyers-room;
-        inside = λ k l m. omega (arith, buyer-inside q inside now k l m, users-many (stays (bookOf s) b (q .sound) (h .lowered) (h .same)), length-usersOf s);
+        inside = λ k l m. omega (arith, buyer-inside q inside now k l m, users-many (stays (bookOf s) b (q .risk .opened .accepted .sound) (h .lowered) (h .same)), length-usersOf s);
       }
 
   module _ (owes : 0 < getD ts place 0) where
@@ -131,11 +131,11 @@ module _ {limits : Limits} {f : Prices} {s sums ss areaCodes bs : List ℕ} (q :
             let se = end-is q inside in
             let lp = left-part q inside now cs ms taken in
             let lo = left-only q inside now cs ms taken in
-            subst (λ (g : Prices). Going limits (bookOf s) (reduced limits b user .book) ms qs (set mid place (cond left (targetAt limits g (usersOf s) sums qs place) 0)) (set es place left)) (sym (q .prices-are))
-            (turn-going (q .sound) h place (member-in q inside now) (left-room q inside now cs ms taken) (members-few q inside now) (rw (sf, se) at own)
-            (rw (sf, se) at lp) (rw (sf, se) at lo) is-due (q .twelve) (q .sales) (rw (sf, se) at moved)
+            subst (λ (g : Prices). Going limits (bookOf s) (reduced limits b user .book) ms qs (set mid place (cond left (targetAt limits g (usersOf s) sums qs place) 0)) (set es place left)) (sym (q .risk .prices-are))
+            (turn-going (q .risk .opened .accepted .sound) h place (member-in q inside now) (left-room q inside now cs ms taken) (members-few q inside now) (rw (sf, se) at own)
+            (rw (sf, se) at lp) (rw (sf, se) at lo) is-due (q .risk .sums-are .twelve) (q .sales) (rw (sf, se) at moved)
             (subst (λ (g : Prices). LookedAgain (targetAt limits g (usersOf s) sums qs) es (part (starts (borneBook (bookOf s)) place) (starts (borneBook (bookOf s)) (suc place)) bs) (part (starts (borneBook (bookOf s)) place) (starts (borneBook (bookOf s)) (suc place)) cs) ts mid least)
-            (q .prices-are) (rw (sf, se) at look))
+            (q .risk .prices-are) (rw (sf, se) at look))
             (rw (sf, se) at is-left))
 
         pub turned : (tally : Tally)

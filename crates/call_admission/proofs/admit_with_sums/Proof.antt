@@ -1,6 +1,6 @@
 -- `admit_with_sums` asks the book, then 26, then the store: where nothing refuses the book refused nothing, so that places and sums are told. Assumes nothing.
 use Rattle.base.specs.Basics.{_∙_, sym, needs}
-use Rattle.book_questions.proofs.Asked.{parties-found}
+use Rattle.book_questions.proofs.Asked.{book-opened}
 use Rattle.call_admission.proofs.Asked.{admitted-book, admitted-by}
 use Rattle.call_admission.proofs.admit_with_sums.Statement.{statement}
 use Rattle.call_admission.proofs.admit_with_sums.Tie as tie
@@ -15,9 +15,14 @@ returns : tie.Need-returns
 returns c =
     let k = c .by-store .ensures in
     let r = c .before .ask2 .ensures in
-    let told = c .before .before .before .before .before .before .ask .ensures in
-    let book = admitted-book _ _ (r .0) (k .0) in
-    (admitted-by _ _ (r .0) (k .0), (k .1, (book, parties-found (told .1) (λ e. told .0 .number ∙ book e) (told .0))))
+    let at-ask = c .before .before .before .before .before .before in
+    let at-known = at-ask .before .before .before .before .before .before .before in
+    let long = at-known .before .pre .0 in
+    let told = at-ask .ask in (
+      admitted-by _ _ (r .0) (k .0),
+      λ z. book-opened (told .ensures .0) (λ j. at-known .shared-slice-known .given j .fits) (admitted-book _ _ (r .0) (k .0) z)
+          (told .kept .1 .0 ∙ long .0) (told .kept .1 .1 .0 ∙ long .1) (told .ensures .1) (k .1),
+    )
 
 pub admit-with-sums-spec : {M : Type 1} → statement M
 admit-with-sums-spec = tie.close (tie.spec (λ c κs. search needs) ask-requires-2 by-store-requires (λ c. search needs) (λ c. search needs) returns)

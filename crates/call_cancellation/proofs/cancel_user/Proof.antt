@@ -26,7 +26,7 @@ cancel-sales-requires c κs =
     let s = start (c .before .before) in
     let r = s .pre .0 .0 in (
       record { borne = r .book; begin = refl; trades-are = refl; inside = s .pre .0 .1 },
-      ((accepted-day (now (s .args .book)) (r .book .accepted .sound) (r .prices-are) (r .limits-in) .prices-in, r .prices-are), s .pre .1),
+      ((accepted-day (r .risk .opened) (r .risk .prices-are) .prices-in, r .risk .prices-are), s .pre .1),
     )
 
 returns-2 : tie.Need-returns-2

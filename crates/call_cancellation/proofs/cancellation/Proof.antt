@@ -1,11 +1,9 @@
 -- `cancellation` is refused by the opening questions, by 25 or by 8, or goes on with the user that the entry found. Assumes nothing.
 use Rattle.base.specs.Basics.{_≡_, refl, _∙_, sym, now, needs}
 use Rattle.call_entry.specs.Entered.{Found}
-use Rattle.book_format.proofs.Held.{accepted-of}
-use Rattle.book_format.proofs.Passed.{passed}
 use Rattle.book_format.proofs.Places.{header-lies}
 use Rattle.book_format.specs.Book.{bookOf}
-use Rattle.book_parties.specs.Ids.{BookIn}
+use Rattle.book_questions.specs.Opened.{Opened}
 use Rattle.units.specs.Limits.{asLimits}
 use Rattle.call_cancellation.proofs.Ways.{call-entered, call-unentered, tries-passed, triesAsked}
 use Rattle.call_cancellation.proofs.cancellation.Statement.{statement}
@@ -25,7 +23,7 @@ started c = let k = c .before in sym (k .before .ask-tries .ensures) ∙ k .seek
 seek-requires : tie.Need-seek-requires
 seek-requires c κs =
     let s = start c in
-    λ e. s .pre .0 (tries-passed (s .args .number) (s .args .tries) (sym (c .ask-tries .ensures) ∙ e) .0)
+    λ e. s .pre (tries-passed (s .args .number) (s .args .tries) (sym (c .ask-tries .ensures) ∙ e) .0) .parties .passes
 
 returns : tie.Need-returns
 returns c =
@@ -33,26 +31,17 @@ returns c =
     let a = start (k .before) .args in
     c .refused .ensures ∙ sym (call-unentered (a .number) (asLimits (a .limits)) (now (a .book)) (a .id) (a .tries) (k .before .ask-tries .ensures) (k .seek .ensures) (c .before .if1 .taken))
 
-read-prices-requires : tie.Need-read-prices-requires
-read-prices-requires c κs = header-lies (passed (now (start (c .before .before) .args .book)) (found c .passes) .form)
+-- what the opening questions give
+told : (c : tie.Else1) → let a = start (c .before .before) .args in Opened (asLimits (a .limits)) (now (a .book)) (now (a .sellers)) (now (a .buyers)) (now (a .sums))
+told c = let s = start (c .before .before) in s .pre (tries-passed (s .args .number) (s .args .tries) (started c) .0)
 
--- the book with the places of its trades' parties
-placed : (c : tie.Else1) → let s = start (c .before .before) in BookIn (now (s .args .book)) (now (s .args .sellers)) (now (s .args .buyers))
-placed c =
-    let s = start (c .before .before) in
-    record {
-      accepted = accepted-of (now (s .args .book)) (λ j. c .before .before .before .shared-slice-known .given j .fits) (found c .passes);
-      placed = s .pre .1 .1 .1 .placed (tries-passed (s .args .number) (s .args .tries) (started c) .0);
-    }
+read-prices-requires : tie.Need-read-prices-requires
+read-prices-requires c κs = header-lies (told c .parties .book .accepted .held .form)
 
 bear-requires : tie.Need-bear-requires
 bear-requires c κs =
-    let e = c .before .before .before .before in
-    let s = start (e .before .before) in
-    let p = s .pre .1 .1 in
-    let told = p .1 .summed in
-    let passes = tries-passed (s .args .number) (s .args .tries) (started e) .0 in
-    ((placed e, p .0 .0, p .0 .1, refl, refl), (told .twelve passes, told .low passes))
+    let o = told (c .before .before .before .before) in
+    ((o .parties, o .summed .sums-are), (refl, refl))
 
 cancel-user-requires : tie.Need-cancel-user-requires
 unfolding bookOf
@@ -63,7 +52,7 @@ cancel-user-requires c κs =
     let s = start (e .before .before) in
     let t = tries-passed (s .args .number) (s .args .tries) (started e) in
     let k = o .bear .ensures in
-    ((record { book = k .0; limits-in = s .pre .1 .0; prices-are = r .read-prices .ensures; twelve = k .1 .0; low = k .1 .1 }, found e .known), (t .1, t .2))
+    ((record { risk = record { opened = told e .summed .figures; prices-are = r .read-prices .ensures; sums-are = k .1 }; book = k .0 }, found e .known), (t .1, t .2))
 
 returns-2 : tie.Need-returns-2
 returns-2 c =

@@ -1,16 +1,15 @@
 -- `call` is refused by the entry, refused for a clearing house, or ends as the questions 11 and 12 leave it. Assumes nothing.
 use Rattle.base.specs.Basics.{_≡_, refl, sym, ap, _∙_, List, ℕ, arith, getD, now, needs}
 use Rattle.rules.specs.Levels.{Limits}
-use Rattle.units.specs.Limits.{asLimits, LimitsInRange}
+use Rattle.units.specs.Limits.{asLimits}
 use Rattle.book_format.specs.Steps.{InBytes}
-use Rattle.book_format.proofs.Held.{accepted-of}
 use Rattle.call_entry.specs.Entered.{Found}
 use Rattle.call_guarantee.specs.Times.{callOf}
 use Rattle.call_entry.proofs.Calls.{called, found-at, found-user}
 use Rattle.call_parties.proofs.Borne.{plain-in}
 use Rattle.book_format.specs.After.{stepAfter}
 use Rattle.book_format.specs.Book.{bookOf, usersOf, versionOf}
-use Rattle.book_parties.specs.Ids.{BookIn}
+use Rattle.book_questions.specs.Opened.{Opened}
 use Rattle.risk_members.proofs.Members.{read-role}
 use Rattle.rules.specs.Areas.{managersIn}
 use Rattle.rules.specs.Book.{User, find, nobody}
@@ -40,12 +39,8 @@ found c = c .before .seek .ensures .found (c .if1 .left)
 started : (c : tie.Else1) → opened (c .before) ≡ 0
 started c = c .before .seek .ensures .start (c .if1 .left)
 
--- the limits that the call is given
-ranged : (c : tie.After-seek) → LimitsInRange (figures c)
-ranged c = start c .pre .1 .0
-
 seek-requires : tie.Need-seek-requires
-seek-requires c κs = c .before .before .pre .0
+seek-requires c κs = λ z. c .before .before .pre z .parties .passes
 
 returns : tie.Need-returns
 returns c =
@@ -74,10 +69,9 @@ returns-2 c =
     called (callOf a (asked e)) (c .refused2 .ensures)
     (call-of-house (opened e) (figures e) (bytes e) (asked e) a (started n) (found n) (λ h. t .if2 .taken (role k ∙ h)))
 
--- the book with the places of its trades' parties
-placed : (n : tie.Else1) → let s = start (n .before) in BookIn (bytes (n .before)) (now (s .args .sellers)) (now (s .args .buyers))
-placed n =
-    record { accepted = accepted-of (bytes (n .before)) (λ j. n .before .before .before .slice-known .given j .fits) (found n .passes); placed = start (n .before) .pre .1 .1 .placed (started n) }
+-- what the opening questions give
+told : (n : tie.Else1) → let a = start (n .before) .args in Opened (figures (n .before)) (bytes (n .before)) (now (a .sellers)) (now (a .buyers)) (now (a .sums))
+told n = start (n .before) .pre (started n)
 
 -- the user that is read, once its role is known
 abbrev read : tie.Else2 → tie.After-user-at
@@ -94,11 +88,11 @@ holdings-of-requires : tie.Need-holdings-of-requires
 holdings-of-requires c κs =
     let k = c .before .before in
     let n = entered k in
-    let told = start (n .before) .pre .1 .1 .summed in
-    (placed n .accepted, record { twelve = told .twelve (started n); low = told .low (started n) }, found n .known, read k .user-at .ensures)
+    let sums = told n .summed in
+    (sums .figures .accepted, sums .sums-are, found n .known, read k .user-at .ensures)
 
 version-requires : tie.Need-version-requires
-version-requires c κs = let n = entered (c .before .before .before .before) in omega (arith, placed n .accepted .held .form .head)
+version-requires c κs = let n = entered (c .before .before .before .before) in omega (arith, told n .parties .book .accepted .held .form .head)
 
 -- whether the version has managers
 managed : (h : tie.After-has-managers) → h .has-managers .result ≡ managersIn (versionOf (bytes (entered (shipped h) .before)))
@@ -109,7 +103,7 @@ bear-managed-requires c κs =
     let t = c .before .before .before .before in
     let h = t .before in
     let n = entered (shipped h) in
-    ((placed n, sym (managed h) ∙ both-right (start (n .before) .args .afternoon) (h .has-managers .result) (t .if3 .taken)), (refl, refl))
+    ((told n .parties .book, sym (managed h) ∙ both-right (start (n .before) .args .afternoon) (h .has-managers .result) (t .if3 .taken)), (refl, refl))
 
 call-at-requires : tie.Need-call-at-requires
 call-at-requires c κs =
@@ -117,8 +111,7 @@ call-at-requires c κs =
     let h = b .before .before .before .before .before .before in
     let k = shipped h in
     let n = entered k in
-    let f = found n in
-    ((placed n .accepted, (λ e. b .bear-managed .ensures .0), f .known, f .passes, ranged (n .before)), (read k .user-at .ensures, h .before .before .before .holdings-of .ensures))
+    ((told n .summed .figures, (λ e. b .bear-managed .ensures .0), found n .known), (read k .user-at .ensures, h .before .before .before .holdings-of .ensures))
 
 -- the end of the call
 ended : (h : tie.After-has-managers) → let e = entered (shipped h) .before in calledAt (start e .args .afternoon) (figures e) (bytes e) (e .seek .result .place) ≡ stepAfter (opened e) (figures e) (bytes e) (callOf (start e .args .afternoon) (asked e))
@@ -140,9 +133,9 @@ call-at-requires-2 c κs =
     let h = l .before in
     let k = shipped h in
     let n = entered k in
-    let f = found n in
+    let b = told n .parties .book in
     let a = start (n .before) .args .afternoon in (
-      (placed n .accepted, (λ e. plain-in (bytes (n .before)) (placed n .accepted) (sym (managed h) ∙ one-without a (h .has-managers .result) (l .if3 .left) e) (placed n)), f .known, f .passes, ranged (n .before)),
+      (told n .summed .figures, (λ e. plain-in (bytes (n .before)) (b .accepted) (sym (managed h) ∙ one-without a (h .has-managers .result) (l .if3 .left) e) b), found n .known),
       (read k .user-at .ensures, h .before .before .before .holdings-of .ensures),
     )
 

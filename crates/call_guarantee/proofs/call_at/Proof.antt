@@ -13,17 +13,17 @@ start c = c .before .before .before .before .before .before .before .before
 level-of-requires : tie.Need-level-of-requires
 level-of-requires c κs =
     let s = start c in
-    ((s .pre .0 .3, s .pre .0 .2, s .pre .0 .4), (s .pre .1 .0, s .pre .1 .1))
+    ((s .pre .0 .0, s .pre .0 .2), s .pre .1)
 
 is-due-requires : tie.Need-is-due-requires
 is-due-requires c κs =
     let s = start (c .before .before) in
-    (s .pre .0, (s .pre .1 .0, positions-held (now (s .args .book)) (s .pre .0 .0) (s .pre .0 .2) (s .args .holdings) (s .pre .1 .1)))
+    (s .pre .0, (s .pre .1 .0, positions-held (now (s .args .book)) (s .pre .0 .0 .accepted) (s .pre .0 .2) (s .args .holdings) (s .pre .1 .1)))
 
 raise-requires : tie.Need-raise-requires
 raise-requires c κs =
     let s = start (c .before .before .before .before) in
-    record { form = s .pre .0 .0 .held .form; inside = s .pre .0 .2 }
+    record { form = s .pre .0 .0 .accepted .held .form; inside = s .pre .0 .2 }
 
 returns : tie.Need-returns
 returns c =

@@ -21,10 +21,10 @@ use Rattle.call_guarantee.proofs.is_due.Tie as tie
 
 -- the book and the user that it is asked of
 passes : (c : tie.Start) → bookNumber (now (c .args .book)) ≡ 0
-passes c = c .pre .0 .3
+passes c = c .pre .0 .0 .passes
 
 form : (c : tie.Start) → Formed (now (c .args .book))
-form c = c .pre .0 .0 .held .form
+form c = c .pre .0 .0 .accepted .held .form
 
 -- the user of the book, and its blocked guarantee
 abbrev user : tie.Start → User
@@ -39,7 +39,7 @@ blocked-most c = omega (arith, blocked-is c, blocked-within (now (c .args .book)
 exceeds-margin-requires : tie.Need-exceeds-margin-requires
 exceeds-margin-requires c κs =
     let s = c .before .before in
-    (s .pre .0 .4, blocked-most s)
+    (s .pre .0 .0 .limits-in, blocked-most s)
 
 -- whether the level exceeds the margin, of the user of the rules
 margin : (c : tie.After-exceeds-margin) → let a = c .before .before .before .args in c .exceeds-margin .result ≡ exceedsMargin (asLimits (a .limits)) (a .level .0) (user (c .before .before .before))
@@ -76,7 +76,7 @@ called-in-requires : tie.Need-called-in-requires
 called-in-requires c κs =
     let p = c .before .before .before in
     let s = p .before .before .before .before .before .before in
-    (s .pre .0 .4, subst InRange (sym (priced p)) (prices-within (now (s .args .book)) (passes s)), blocked-most s)
+    (s .pre .0 .0 .limits-in, subst InRange (sym (priced p)) (prices-within (now (s .args .book)) (passes s)), blocked-most s)
 
 returns-2 : tie.Need-returns-2
 unfolding dueOf bookOf

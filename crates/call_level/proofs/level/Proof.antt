@@ -7,9 +7,8 @@ use Rattle.rules.specs.Queries.{aLevel, onlyNumber}
 use Rattle.units.specs.Limits.{asLimits}
 use Rattle.call_entry.specs.Entered.{Found}
 use Rattle.call_entry.proofs.Calls.{found-at, found-user}
-use Rattle.book_format.proofs.Held.{accepted-of}
 use Rattle.book_format.specs.Book.{bookOf, usersOf}
-use Rattle.book_format.specs.Held.{Accepted}
+use Rattle.book_questions.specs.Opened.{OpenedSums}
 use Rattle.risk_members.proofs.Members.{read-role}
 use Rattle.rules.specs.Book.{User, find, nobody}
 use lib.ListN.{getD}
@@ -31,7 +30,7 @@ started : (c : tie.Else1) → c .before .before .before .args .number ≡ 0
 started c = c .before .seek .ensures .start (c .if1 .left)
 
 seek-requires : tie.Need-seek-requires
-seek-requires c κs = c .before .pre .0
+seek-requires c κs = λ z. c .before .pre z .figures .passes
 
 returns : tie.Need-returns
 unfolding onlyNumber
@@ -57,28 +56,25 @@ returns-2 c =
     let a = e .before .before .args in
     level-of-house (a .number) (asLimits (a .limits)) (bytes e) (asked e) (a .afternoon) (started (u .before)) (found (u .before)) (λ h. c .if2 .taken (role u ∙ h))
 
--- the book is accepted
-accepted : (c : tie.Else1) → Accepted (bytes (c .before))
-accepted c = accepted-of (bytes (c .before)) (λ j. c .before .before .shared-slice-known .given j .fits) (found c .passes)
+-- what the opening questions give
+told : (c : tie.Else1) → let a = c .before .before .before .args in OpenedSums (asLimits (a .limits)) (bytes (c .before)) (now (a .sums))
+told c = c .before .before .before .pre (started c)
 
 holdings-of-requires : tie.Need-holdings-of-requires
 holdings-of-requires c κs =
-    let u = c .before .before .before in
+    let u = c .before .before in
     let n = u .before in
-    let told = n .before .before .before .pre .1 .1 .summed in
-    (accepted n, record { twelve = told .twelve (started n); low = told .low (started n) }, found n .known, u .user-at .ensures)
+    (told n .figures .accepted, told n .sums-are, found n .known, u .user-at .ensures)
 
 level-of-requires : tie.Need-level-of-requires
 level-of-requires c κs =
-    let u = c .before .before .before .before in
-    let f = found (u .before) in
-    let s = u .before .before .before .before in
-    ((f .passes, f .known, s .pre .1 .0), (u .user-at .ensures, c .holdings-of .ensures))
+    let u = c .before .before .before in
+    ((told (u .before) .figures, found (u .before) .known), (u .user-at .ensures, c .holdings-of .ensures))
 
 returns-3 : tie.Need-returns-3
 unfolding aLevel
 returns-3 c =
-    let n = c .before .before .before in
+    let n = c .before .before in
     let u = n .before .before in
     let e = u .before .before in
     let a = e .before .before .args in

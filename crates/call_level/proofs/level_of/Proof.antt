@@ -11,7 +11,7 @@ use Rattle.units.specs.Amounts.{balance}
 use Rattle.units.specs.Limits.{asLimits}
 use Rattle.units.specs.Prices.{InRange, asPrices}
 use Rattle.book_format.specs.Book.{bookOf, usersOf}
-use Rattle.book_format.proofs.Passed.{length-usersOf, passed}
+use Rattle.book_format.proofs.Passed.{length-usersOf}
 use Rattle.book_format.proofs.Places.{header-lies}
 use Rattle.risk_members.proofs.Members.{read-charges}
 use Rattle.risk_user.proofs.Accepted.{prices-within}
@@ -21,7 +21,7 @@ use Rattle.call_level.proofs.level_of.Statement.{statement}
 use Rattle.call_level.proofs.level_of.Tie as tie
 
 read-prices-requires : tie.Need-read-prices-requires
-read-prices-requires c κs = header-lies (passed (now (c .before .args .book)) (c .before .pre .0 .0) .form)
+read-prices-requires c κs = header-lies (c .before .pre .0 .0 .accepted .held .form)
 
 -- the prices are the book's
 priced : (c : tie.After-read-prices) → asPrices (c .read-prices .result) ≡ bookOf (now (c .before .before .args .book)) .header .prices
@@ -29,7 +29,7 @@ unfolding bookOf
 priced c = c .read-prices .ensures
 
 ranged : (c : tie.After-read-prices) → InRange (asPrices (c .read-prices .result))
-ranged c = subst InRange (sym (priced c)) (prices-within (now (c .before .before .args .book)) (c .before .before .pre .0 .0))
+ranged c = subst InRange (sym (priced c)) (prices-within (now (c .before .before .args .book)) (c .before .before .pre .0 .0 .passes))
 
 -- the user is one of the book's
 member : (c : tie.Start) → c .args .place < length (bookOf (now (c .args .book)) .users)
@@ -40,7 +40,7 @@ afternoon-level-requires : tie.Need-afternoon-level-requires
 afternoon-level-requires c κs =
     let p = c .before .before in
     let s = p .before .before in
-    (s .pre .0 .2, ranged p, s .pre .1 .1 .low)
+    (s .pre .0 .0 .limits-in, ranged p, s .pre .1 .1 .low)
 
 -- the charges are those of its record
 charged : (c : tie.Start) → balance (c .args .user .charges) ≡ getD (bookOf (now (c .args .book)) .users) (c .args .place) nobody .party .charges
@@ -63,7 +63,7 @@ morning-level-requires : tie.Need-morning-level-requires
 morning-level-requires c κs =
     let p = c .before .before in
     let s = p .before .before in
-    (s .pre .0 .2, ranged p, s .pre .1 .1 .low)
+    (s .pre .0 .0 .limits-in, ranged p, s .pre .1 .1 .low)
 
 returns-2 : tie.Need-returns-2
 unfolding levelOf bookOf

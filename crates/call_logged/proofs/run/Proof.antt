@@ -1,11 +1,8 @@
 -- `run` is refused by an opening question, or runs the book in its bytes, and the log holds the book that it leaves. Assumes nothing.
 use Rattle.base.specs.Basics.{_≡_, refl, _∙_, _≤_, arith, T, now, needs}
-use Rattle.book_format.proofs.Held.{accepted-of}
 use Rattle.book_format.proofs.Places.{header-lies}
-use Rattle.book_format.proofs.Passed.{passed}
 use Rattle.book_format.specs.Book.{bookOf, tradeCount}
-use Rattle.book_format.specs.Questions.{bookNumber}
-use Rattle.book_parties.specs.Ids.{BookIn}
+use Rattle.book_questions.specs.Opened.{Opened}
 use Rattle.call_run.specs.Call.{runCall}
 use Rattle.log_format.proofs.Read.{FitLog, fits-facts}
 use Rattle.log_format.specs.Fits.{logFits}
@@ -18,18 +15,18 @@ use Rattle.call_logged.proofs.run.Tie as tie
 abbrev start : tie.Else1 → tie.Start
 start c = c .before .before .before
 
--- the book and the log pass where the number is 0
-passes : (c : tie.Else1) → bookNumber (now (start c .args .book)) ≡ 0
-passes c = start c .pre .0 .book (c .if1 .left)
+-- what the opening questions give: the book, and that the log fits it
+told : (c : tie.Else1) → let a = start c .args in Opened (asLimits (a .limits)) (now (a .book)) (now (a .sellers)) (now (a .buyers)) (now (a .sums))
+told c = start c .pre .0 (c .if1 .left)
 
 fits : (c : tie.Else1) → T (logFits (now (start c .args .log)) (now (start c .args .book)))
-fits c = start c .pre .0 .log (c .if1 .left)
+fits c = start c .pre .1 (c .if1 .left)
 
 facts : (c : tie.Else1) → FitLog (now (start c .args .log)) (now (start c .args .book))
 facts c = fits-facts (now (start c .args .log)) (now (start c .args .book)) (fits c)
 
 few : (c : tie.Else1) → tradeCount (now (start c .args .book)) ≤ 256
-few c = passed (now (start c .args .book)) (passes c) .form .trades
+few c = told c .parties .book .accepted .held .form .trades
 
 -- the count that was read
 count : (c : tie.After-get-u32) → c .get-u32 .result ≡ entryCount (now (start (c .before .before .before .before) .args .log))
@@ -42,23 +39,15 @@ returns c =
     logged-refused (asLimits (a .limits)) (now (a .book)) (now (a .log)) runCall (a .number) (c .before .if1 .taken) (c .refused .ensures)
 
 read-prices-requires : tie.Need-read-prices-requires
-read-prices-requires c κs = let e = c .before in header-lies (passed (now (start e .args .book)) (passes e) .form)
+read-prices-requires c κs = header-lies (told (c .before) .parties .book .accepted .held .form)
 
 get-u32-requires : tie.Need-get-u32-requires
 get-u32-requires c κs = omega (arith, facts (c .before .before .before) .size)
 
--- the book with the places of its trades' parties
-placed : (c : tie.Else1) → BookIn (now (start c .args .book)) (now (start c .args .sellers)) (now (start c .args .buyers))
-placed c =
-    let s = start c in
-    record { accepted = accepted-of (now (s .args .book)) (λ j. c .before .before .slice-known .given j .fits) (passes c); placed = s .pre .1 .1 .1 .placed (c .if1 .left) }
-
 bear-requires : tie.Need-bear-requires
 bear-requires c κs =
-    let e = c .before .before .before .before .before .before .before .before in
-    let p = start e .pre .1 .1 in
-    let told = p .1 .summed in
-    ((placed e, p .0 .0, p .0 .1, refl, refl), (told .twelve (e .if1 .left), told .low (e .if1 .left)))
+    let o = told (c .before .before .before .before .before .before .before .before) in
+    ((o .parties, o .summed .sums-are), (refl, refl))
 
 run-book-requires : tie.Need-run-book-requires
 unfolding bookOf
@@ -67,7 +56,8 @@ run-book-requires c κs =
     let g = o .before .before .before .before .before in
     let e = g .before .before .before .before in
     let k = o .bear .ensures in
-    (placed e, (record { book = k .0; limits-in = start e .pre .1 .0; prices-are = g .before .before .read-prices .ensures; twelve = k .1 .0; low = k .1 .1 }, (omega (arith, count g, facts e .count), facts e .size)))
+    let t = told e in
+    (t .parties .book, (record { risk = record { opened = t .summed .figures; prices-are = g .before .before .read-prices .ensures; sums-are = k .1 }; book = k .0 }, (omega (arith, count g, facts e .count), facts e .size)))
 
 cast-many : tie.Need-cast-many
 cast-many c = omega (arith, c .before .before .before .before .before .run-book .ensures .few)

@@ -1,7 +1,5 @@
 -- `withdrawal` is refused by an opening question, has no entry to withdraw, or withdraws the last. Assumes nothing.
 use Rattle.base.specs.Basics.{_≡_, sym, _∙_, _-_, arith, T, now, needs}
-use Rattle.book_format.proofs.Held.{accepted-of}
-use Rattle.book_format.specs.Questions.{bookNumber}
 use Rattle.log_format.proofs.Read.{FitLog, fits-facts}
 use Rattle.log_format.specs.Fits.{logFits}
 use Rattle.log_format.specs.Log.{entryCount}
@@ -12,11 +10,8 @@ use Rattle.call_logged.proofs.withdrawal.Tie as tie
 abbrev start : tie.Else1 → tie.Start
 start c = c .before .before .before
 
-passes : (c : tie.Else1) → bookNumber (now (start c .args .book)) ≡ 0
-passes c = start c .pre .0 .book (c .if1 .left)
-
 fits : (c : tie.Else1) → T (logFits (now (start c .args .log)) (now (start c .args .book)))
-fits c = start c .pre .0 .log (c .if1 .left)
+fits c = start c .pre .1 (c .if1 .left)
 
 facts : (c : tie.Else1) → FitLog (now (start c .args .log)) (now (start c .args .book))
 facts c = fits-facts (now (start c .args .log)) (now (start c .args .book)) (fits c)
@@ -43,8 +38,7 @@ sub-withdraw-last c = some-left (c .before .before .if2 .left)
 withdraw-last-requires : tie.Need-withdraw-last-requires
 withdraw-last-requires c κs =
     let e = c .before .before .before .before .before in
-    let s = start e in
-    (record { accepted = accepted-of (now (s .args .book)) (λ j. e .before .before .slice-known .given j .fits) (passes e); placed = s .pre .1 .placed (e .if1 .left) }, fits e, (let l = some-left (c .before .before .if2 .left) in omega (arith, count (c .before .before .before), l)))
+    (start e .pre .0 (e .if1 .left) .book, fits e, (let l = some-left (c .before .before .if2 .left) in omega (arith, count (c .before .before .before), l)))
 
 returns-3 : tie.Need-returns-3
 returns-3 c =

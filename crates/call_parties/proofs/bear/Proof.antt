@@ -6,7 +6,7 @@ use Rattle.call_parties.proofs.bear.Statement.{statement}
 use Rattle.call_parties.proofs.bear.Tie as tie
 
 version-requires : tie.Need-version-requires
-version-requires c κs = let s = c .before in omega (arith, s .pre .0 .0 .accepted .held .form .head)
+version-requires c κs = let s = c .before in omega (arith, s .pre .0 .0 .book .accepted .held .form .head)
 
 bear-managed-requires : tie.Need-bear-managed-requires
 bear-managed-requires c κs =
@@ -14,17 +14,17 @@ bear-managed-requires c κs =
     let h = t .before in
     let v = h .before in
     let s = v .before .before in
-    ((s .pre .0 .0, sym (h .has-managers .ensures ∙ ap managersIn (v .version .ensures)) ∙ t .if1 .taken), (s .pre .0 .3, s .pre .0 .4))
+    ((s .pre .0 .0 .book, sym (h .has-managers .ensures ∙ ap managersIn (v .version .ensures)) ∙ t .if1 .taken), s .pre .1)
 
 copy-places-requires : tie.Need-copy-places-requires
 copy-places-requires c κs =
     let s = c .before .before .before .before .before in
-    (s .pre .0 .1, s .pre .0 .3)
+    (s .pre .0 .0 .sellers-room, s .pre .1 .0)
 
 copy-places-requires-2 : tie.Need-copy-places-requires-2
 copy-places-requires-2 c κs =
     let s = c .before .before .before .before .before .before .before in
-    (s .pre .0 .2, s .pre .0 .4)
+    (s .pre .0 .0 .buyers-room, s .pre .1 .1)
 
 returns-2 : tie.Need-returns-2
 returns-2 c =
@@ -33,9 +33,10 @@ returns-2 c =
     let h = e .before in
     let v = h .before in
     let s = v .before .before in
-    let a = s .pre .0 .0 .accepted in
+    let b = s .pre .0 .0 .book in
+    let a = b .accepted in
     let none = sym (h .has-managers .ensures ∙ ap managersIn (v .version .ensures)) ∙ e .if1 .left in
-    (plain-copied (now (s .args .book)) a none (s .pre .0 .0) (o .copy-places .ensures) (c .copy-places2 .ensures), (plain-sums (now (s .args .book)) a none (s .pre .1 .0), s .pre .1 .1))
+    (plain-copied (now (s .args .book)) a none b (o .copy-places .ensures) (c .copy-places2 .ensures), plain-sums (now (s .args .book)) a none (s .pre .0 .1))
 
 pub bear-spec : {M : Type 1} → statement M
 bear-spec =

@@ -38,7 +38,7 @@ returns c =
     let s = f .before .before .before .before .before .before in
     let a = s .pre .0 .0 .accepted in
     let p = c .bear-trades .ensures .0 (tradesIn (now (s .args .book))) (all-borne (now (s .args .book)) _ a (f .fill-bearers .ensures)) in
-    (managed-in (now (s .args .book)) a p, (managed-sums (now (s .args .book)) a p, c .bear-trades .ensures .1))
+    (managed-in (now (s .args .book)) a p, record { twelve = managed-sums (now (s .args .book)) a p; low = c .bear-trades .ensures .1 })
 
 pub bear-managed-spec : {M : Type 1} → statement M
 bear-managed-spec =

@@ -31,7 +31,7 @@ trades-are c = c .trade-count .ensures
 
 -- what can be asked of the user
 day-is : (s : tie.Start) → let a = s .args in DayOf (asLimits (a .day .limits)) (asPrices (a .day .prices)) (now (a .book))
-day-is s = let r = s .pre .0 in accepted-day (now (s .args .book)) (r .book .accepted .sound) (r .prices-are) (r .limits-in)
+day-is s = let r = s .pre .0 .risk in accepted-day (r .opened) (r .prices-are)
 
 user-in : (s : tie.Start) → UserIn (now (s .args .book)) (s .args .place)
 user-in s = record { form = s .pre .0 .book .accepted .held .form; inside = s .pre .1 }
@@ -40,13 +40,13 @@ user-in s = record { form = s .pre .0 .book .accepted .held .form; inside = s .p
 level-is : (c : tie.After-level-at) → let a = start (filled c) .args in c .level-at .result .0 ≡ afternoonLevel (asLimits (a .day .limits)) (bookOf (now (a .book))) (getD (usersOf (now (a .book))) (a .place) nobody)
 level-is c =
     let s = start (filled c) in
-    asked-level (s .pre .0) (s .pre .1) (filled c .fill-positions .ensures .0) (c .level-at .ensures)
+    asked-level (s .pre .0 .risk) (s .pre .1) (filled c .fill-positions .ensures .0) (c .level-at .ensures)
 
 called-is : (c : tie.After-level-at) → let a = start (filled c) .args in c .before .before .called-at .result ≡ calledIn (asLimits (a .day .limits)) (bookOf (now (a .book))) (getD (usersOf (now (a .book))) (a .place) nobody)
 called-is c =
     let f = filled c in
     let s = start f in
-    asked-called (s .pre .0) (s .pre .1) (f .fill-positions .ensures .0) (c .before .before .called-at .ensures) (c .before .before .before .before .below-notified-at .ensures)
+    asked-called (s .pre .0 .risk) (s .pre .1) (f .fill-positions .ensures .0) (c .before .before .called-at .ensures) (c .before .before .before .before .below-notified-at .ensures)
 
 fill-positions-requires : tie.Need-fill-positions-requires
 fill-positions-requires c κs =
@@ -63,7 +63,7 @@ called-at-requires : tie.Need-called-at-requires
 called-at-requires c κs = let s = start (c .before .before) in (day-is s, user-in s)
 
 level-at-requires : tie.Need-level-at-requires
-level-at-requires c κs = let s = start (c .before .before .before .before) in (day-is s, user-in s, s .pre .0 .low)
+level-at-requires c κs = let s = start (c .before .before .before .before) in (day-is s, user-in s, s .pre .0 .risk .sums-are .low)
 
 state-of-requires : tie.Need-state-of-requires
 state-of-requires c κs = let s = start (filled c) in (day-is s, user-in s)
@@ -74,7 +74,7 @@ returns c =
     let l = q .before .before in
     let f = filled l in
     let s = start f in
-    (refused-shortfall (s .pre .0) (s .pre .1) (f .fill-positions .ensures .0) (level-is l) (called-is l) (q .refused-by .ensures) (q .before .state-of .ensures) (c .if1 .taken), f .fill-positions .ensures)
+    (refused-shortfall (s .pre .0 .risk) (s .pre .1) (f .fill-positions .ensures .0) (level-is l) (called-is l) (q .refused-by .ensures) (q .before .state-of .ensures) (c .if1 .taken), f .fill-positions .ensures)
 
 target-of-requires : tie.Need-target-of-requires
 target-of-requires c κs = let s = start (filled (c .before .before .before)) in (day-is s, user-in s)
@@ -85,7 +85,7 @@ returns-2 c =
     let l = q .before .before in
     let f = filled l in
     let s = start f in
-    (owed-shortfall (s .pre .0) (s .pre .1) (f .fill-positions .ensures .0) (level-is l) (called-is l) (q .refused-by .ensures) (q .before .state-of .ensures) (c .before .if1 .left) (c .target-of .ensures), f .fill-positions .ensures)
+    (owed-shortfall (s .pre .0 .risk) (s .pre .1) (f .fill-positions .ensures .0) (level-is l) (called-is l) (q .refused-by .ensures) (q .before .state-of .ensures) (c .before .if1 .left) (c .target-of .ensures), f .fill-positions .ensures)
 
 pub shortfall-at-spec : {M : Type 1} → statement M
 shortfall-at-spec =

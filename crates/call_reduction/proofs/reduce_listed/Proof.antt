@@ -59,13 +59,13 @@ reduce-requires c κs =
     ((run-prices q, sales-in q k h, reducible q k h), (no-cuts _ _ (part-rises q k) (part-few q k), refl))
 
 user-count-requires : tie.Need-user-count-requires
-user-count-requires c κs = omega (arith, c .before .before .before .before .before .before .before .before .before .before .before .before .before .before .before .before .pre .0 .book .book .accepted .held .form .head)
+user-count-requires c κs = omega (arith, c .before .before .before .before .before .before .before .before .before .before .before .before .before .before .before .before .pre .0 .book .accepted .held .form .head)
 
 apply-requires : tie.Need-apply-requires
 apply-requires c κs =
     let s = c .before .before .before .before .before .before .before .before .before .before .before .before .before .before .before .before .before .before .before in
     let a = s .args in
-    ((s .pre .0 .own, own-cuttable (s .pre .0) (s .pre .1 .0) (roomAsked (a .with-log) (now (a .log))) (a .asked .0) _ _ (c .before .before .before .before .reduce .ensures .0) refl), users-are (c .before .before))
+    ((s .pre .0 .book, own-cuttable (s .pre .0) (s .pre .1 .0) (roomAsked (a .with-log) (now (a .log))) (a .asked .0) _ _ (c .before .before .before .before .reduce .ensures .0) refl), users-are (c .before .before))
 
 note-requires : tie.Need-note-requires
 note-requires c κs =

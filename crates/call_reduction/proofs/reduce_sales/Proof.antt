@@ -14,7 +14,7 @@ trades-are c = c .trade-count .ensures
 
 fill-lists-requires : tie.Need-fill-lists-requires
 fill-lists-requires c κs = (
-  (c .before .before .before .before .before .before .before .before .before .before .before .before .pre .0 .book .book, users-are (c .before .before .before .before .before .before .before .before), trades-are (c .before .before .before .before .before .before)),
+  (c .before .before .before .before .before .before .before .before .before .before .before .before .pre .0 .1, users-are (c .before .before .before .before .before .before .before .before), trades-are (c .before .before .before .before .before .before)),
   (refl, record { origins-room = refl; standing-room = refl; areas-room = refl; buyers-room = refl }),
 )
 
@@ -22,7 +22,7 @@ reduce-listed-requires : tie.Need-reduce-listed-requires
 reduce-listed-requires c κs =
     let e = c .before .before .before .before .before .before .before .before .fill-lists .ensures in
     let s = c .before .before .before .before .before .before .before .before .before .before .before .before .before .before .before .before .before .before .before .before .before in
-    (s .pre .0, (all-listed (e .0) (e .1 .0) (e .1 .1), s .pre .1))
+    (s .pre .0 .0, (all-listed (e .0) (e .1 .0) (e .1 .1), s .pre .1))
 
 returns : tie.Need-returns
 returns c = c .before .before .before .before .reduce-listed .ensures

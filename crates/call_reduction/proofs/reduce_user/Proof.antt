@@ -32,7 +32,8 @@ reduce-sales-requires c κs =
     let q = c .before .before .before .before .before in
     let s = start q in
     let filled = q .shortfall-at .ensures .1 in
-    (record { limits = asLimits (s .args .day .limits); sums = now (s .args .sums); book = s .pre .1 .0 .0; own = s .pre .0; inside = s .pre .1 .0 .1; positions = filled .0; room = filled .1 }, s .pre .1 .1)
+    let r = s .pre .1 .0 .0 in
+    ((record { limits = asLimits (s .args .day .limits); sums = now (s .args .sums); risk = r .risk; book = s .pre .0; inside = s .pre .1 .0 .1; positions = filled .0; room = filled .1 }, r .book), s .pre .1 .1)
 
 returns-2 : tie.Need-returns-2
 unfolding entryOf

@@ -1,14 +1,12 @@
 -- `reduction` is refused by the entry, or goes on with the user that it found. Assumes nothing.
 use Rattle.base.specs.Basics.{_≡_, refl, now, needs}
 use Rattle.call_entry.specs.Entered.{Found}
-use Rattle.book_format.proofs.Passed.{passed}
 use Rattle.book_format.proofs.Places.{header-lies}
 use Rattle.book_format.specs.Book.{bookOf}
 use Rattle.log_format.specs.Noted.{entryOf}
 use Rattle.rules.specs.Book.{find}
 use Rattle.units.specs.Limits.{asLimits}
-use Rattle.book_format.proofs.Held.{accepted-of}
-use Rattle.book_parties.specs.Ids.{BookIn}
+use Rattle.book_questions.specs.Opened.{Opened}
 use Rattle.call_reduction.specs.Call.{roomAsked}
 use Rattle.call_reduction.proofs.Entry.{noted-refused, reduced-with}
 use Rattle.call_reduction.proofs.Ways.{call-gives, call-unentered, found-at, gives-refused}
@@ -26,7 +24,7 @@ started : (c : tie.Else1) → start (c .before) .args .number ≡ 0
 started c = c .before .seek .ensures .start (c .if1 .left)
 
 seek-requires : tie.Need-seek-requires
-seek-requires c κs = c .before .before .before .pre .0
+seek-requires c κs = λ z. c .before .before .before .pre .0 z .parties .passes
 
 returns : tie.Need-returns
 returns c =
@@ -37,21 +35,17 @@ returns c =
     (gives-refused n (call-unentered (roomAsked (a .with-log) (now (a .log))) (a .number) (asLimits (a .limits)) (now (a .book)) (a .id) (e .seek .ensures) (c .before .if1 .taken)) (c .refused .ensures))
     (noted-refused (a .with-log) (entryOf (asLimits (a .limits)) (bookOf (now (a .book))) (find (bookOf (now (a .book)) .users) (a .id))) (now (a .book)) (now (a .book)) (now (a .log)) (c .before .if1 .taken) (c .refused .ensures))
 
-read-prices-requires : tie.Need-read-prices-requires
-read-prices-requires c κs = let e = c .before in header-lies (passed (now (start (e .before) .args .book)) (found e .passes) .form)
+-- what the opening questions give
+told : (c : tie.Else1) → let a = start (c .before) .args in Opened (asLimits (a .limits)) (now (a .book)) (now (a .sellers)) (now (a .buyers)) (now (a .sums))
+told c = start (c .before) .pre .0 (started c)
 
--- the book with the places of its trades' parties
-placed : (c : tie.Else1) → let s = start (c .before) in BookIn (now (s .args .book)) (now (s .args .sellers)) (now (s .args .buyers))
-placed c =
-    let s = start (c .before) in
-    record { accepted = accepted-of (now (s .args .book)) (λ j. c .before .before .before .before .slice-known .given j .fits) (found c .passes); placed = s .pre .1 .1 .1 .1 .placed (started c) }
+read-prices-requires : tie.Need-read-prices-requires
+read-prices-requires c κs = header-lies (told (c .before) .parties .book .accepted .held .form)
 
 bear-requires : tie.Need-bear-requires
 bear-requires c κs =
-    let e = c .before .before .before .before .before .before in
-    let p = start (e .before) .pre .1 .1 .1 in
-    let told = p .1 .summed in
-    ((placed e, p .0 .0, p .0 .1, refl, refl), (told .twelve (started e), told .low (started e)))
+    let o = told (c .before .before .before .before .before .before) in
+    ((o .parties, o .summed .sums-are), (refl, refl))
 
 reduce-user-requires : tie.Need-reduce-user-requires
 unfolding bookOf
@@ -59,9 +53,9 @@ reduce-user-requires c κs =
     let o = c .before .before .before .before .before in
     let r = o .before .before .before .before .before in
     let e = r .before .before in
-    let s = start (e .before) in
+    let t = told e in
     let k = o .bear .ensures in
-    (placed e, ((record { book = k .0; limits-in = s .pre .1 .1 .0; prices-are = r .read-prices .ensures; twelve = k .1 .0; low = k .1 .1 }, found e .known), s .pre .1 .0 (started e)))
+    (t .parties .book, ((record { risk = record { opened = t .summed .figures; prices-are = r .read-prices .ensures; sums-are = k .1 }; book = k .0 }, found e .known), start (e .before) .pre .1 (started e)))
 
 returns-2 : tie.Need-returns-2
 returns-2 c =

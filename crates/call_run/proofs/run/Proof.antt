@@ -1,14 +1,11 @@
 -- `run` is refused by an opening question, or runs the book in its bytes. Assumes nothing.
-use mathlib.Core.Path.{_≡_, refl}
+use mathlib.Core.Path.{refl}
 use borrow.Author.Needs.{needs}
 use denote.Ref.{now}
-use Rattle.book_format.proofs.Passed.{passed}
 use Rattle.book_format.proofs.Places.{header-lies}
-use Rattle.book_format.specs.Questions.{bookNumber}
 use Rattle.units.specs.Limits.{asLimits}
-use Rattle.book_format.proofs.Held.{accepted-of}
 use Rattle.book_format.specs.Book.{bookOf}
-use Rattle.book_parties.specs.Ids.{BookIn}
+use Rattle.book_questions.specs.Opened.{Opened}
 use Rattle.call_run.proofs.Ways.{run-called, run-refused}
 use Rattle.call_run.proofs.run.Statement.{statement}
 use Rattle.call_run.proofs.run.Tie as tie
@@ -16,9 +13,9 @@ use Rattle.call_run.proofs.run.Tie as tie
 abbrev start : tie.Else1 → tie.Start
 start c = c .before .before
 
--- the book passes where the number is 0
-passes : (c : tie.Else1) → bookNumber (now (start c .args .book)) ≡ 0
-passes c = start c .pre .0 (c .if1 .left)
+-- what the opening questions give
+told : (c : tie.Else1) → let a = start c .args in Opened (asLimits (a .limits)) (now (a .book)) (now (a .sellers)) (now (a .buyers)) (now (a .sums))
+told c = start c .pre (c .if1 .left)
 
 returns : tie.Need-returns
 returns c =
@@ -26,29 +23,21 @@ returns c =
     run-refused (asLimits (a .limits)) (now (a .book)) (a .number) (c .before .if1 .taken) (c .refused .ensures)
 
 read-prices-requires : tie.Need-read-prices-requires
-read-prices-requires c κs = let e = c .before in header-lies (passed (now (start e .args .book)) (passes e) .form)
-
--- the book with the places of its trades' parties
-placed : (c : tie.Else1) → BookIn (now (start c .args .book)) (now (start c .args .sellers)) (now (start c .args .buyers))
-placed c =
-    let s = start c in
-    record { accepted = accepted-of (now (s .args .book)) (λ j. c .before .slice-known .given j .fits) (passes c); placed = s .pre .1 .1 .1 .placed (c .if1 .left) }
+read-prices-requires c κs = header-lies (told (c .before) .parties .book .accepted .held .form)
 
 bear-requires : tie.Need-bear-requires
 bear-requires c κs =
-    let e = c .before .before .before .before .before .before in
-    let p = start e .pre .1 .1 in
-    let told = p .1 .summed in
-    ((placed e, p .0 .0, p .0 .1, refl, refl), (told .twelve (e .if1 .left), told .low (e .if1 .left)))
+    let o = told (c .before .before .before .before .before .before) in
+    ((o .parties, o .summed .sums-are), (refl, refl))
 
 run-book-requires : tie.Need-run-book-requires
 unfolding bookOf
 run-book-requires c κs =
     let o = c .before .before .before .before in
     let r = o .before .before .before .before .before in
-    let e = r .before .before in
+    let e = told (r .before .before) in
     let k = o .bear .ensures in
-    (placed e, record { book = k .0; limits-in = start e .pre .1 .0; prices-are = r .read-prices .ensures; twelve = k .1 .0; low = k .1 .1 })
+    (e .parties .book, record { risk = record { opened = e .summed .figures; prices-are = r .read-prices .ensures; sums-are = k .1 }; book = k .0 })
 
 returns-2 : tie.Need-returns-2
 returns-2 c =

@@ -1,11 +1,13 @@
 -- `count` is refused by the entry, or counts the trades. Assumes nothing.
 use Rattle.base.specs.Basics.{_∙_, ap, false, [], ℕ, now, needs}
-use Rattle.book_format.proofs.Held.{accepted-of}
 use Rattle.rights.specs.Trades.{countOf, idOf, tells, toldNumber}
 use Rattle.call_told.specs.Told.{countTold}
 use Rattle.call_told.proofs.Asked.{found-above, told-found, told-refused}
 use Rattle.call_told.proofs.count.Statement.{statement}
 use Rattle.call_told.proofs.count.Tie as tie
+
+seek-shipper-requires : tie.Need-seek-shipper-requires
+seek-shipper-requires c κs = λ z. c .before .pre z .passes
 
 returns : tie.Need-returns
 unfolding countTold toldNumber idOf
@@ -17,10 +19,7 @@ returns c =
 count-seen-requires : tie.Need-count-seen-requires
 count-seen-requires c κs =
     let k = c .before in
-    let n = k .before in
-    let o = n .before in
-    let z = k .seek-shipper .ensures .start (c .if1 .left) in
-    (record { accepted = accepted-of _ (λ j. n .shared-slice-known .given j .fits) (o .pre .0 z); placed = o .pre .1 z }, found-above (k .seek-shipper .ensures .found (c .if1 .left)))
+    (k .before .before .pre (k .seek-shipper .ensures .start (c .if1 .left)) .book, found-above (k .seek-shipper .ensures .found (c .if1 .left)))
 
 returns-2 : tie.Need-returns-2
 unfolding countTold tells idOf
@@ -33,4 +32,4 @@ returns-2 c =
     ∙ told-found (a .opened) (now (a .book)) (countOf (a .id)) (k .seek-shipper .ensures) limits (e .if1 .left)
 
 pub count-spec : {M : Type 1} → statement M
-count-spec = tie.close (tie.spec (λ c κs. search needs) returns count-seen-requires returns-2)
+count-spec = tie.close (tie.spec seek-shipper-requires returns count-seen-requires returns-2)

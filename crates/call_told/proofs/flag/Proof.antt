@@ -21,6 +21,9 @@ bytes c = now (start c .args .book)
 found : (c : tie.Else1) → Found (bytes (c .before)) (start (c .before) .args .id) (c .before .seek-shipper .result .place)
 found c = c .before .seek-shipper .ensures .found (c .if1 .left)
 
+seek-shipper-requires : tie.Need-seek-shipper-requires
+seek-shipper-requires c κs = λ z. c .before .pre z .passes
+
 returns : tie.Need-returns
 unfolding flagTold toldNumber idOf
 returns c =
@@ -29,7 +32,7 @@ returns c =
     told-refused (a .opened) (bytes k) (flagOf (a .id)) (k .seek-shipper .ensures) (asLimits (a .limits)) (c .if1 .taken)
 
 is-flagged-requires : tie.Need-is-flagged-requires
-is-flagged-requires c κs = ((found c .passes, found c .known), start (c .before) .pre .1)
+is-flagged-requires c κs = let k = c .before in (start k .pre (k .seek-shipper .ensures .start (c .if1 .left)), found c .known)
 
 returns-2 : tie.Need-returns-2
 unfolding flagTold tells idOf bookOf
@@ -44,4 +47,4 @@ returns-2 c =
     ∙ told-found (a .opened) (bytes k) (flagOf (a .id)) (k .seek-shipper .ensures) l (n .if1 .left)
 
 pub flag-spec : {M : Type 1} → statement M
-flag-spec = tie.close (tie.spec (λ c κs. search needs) returns is-flagged-requires returns-2)
+flag-spec = tie.close (tie.spec seek-shipper-requires returns is-flagged-requires returns-2)

@@ -3,8 +3,7 @@ use Rattle.base.specs.Basics.{_∙_, subst, sym, arith, getD, now}
 use Rattle.rules.specs.Book.{nobody}
 use Rattle.units.specs.Limits.{asLimits}
 use Rattle.units.specs.Prices.{InRange}
-use Rattle.book_format.proofs.Held.{accepted-of}
-use Rattle.book_format.proofs.Passed.{length-usersOf, passed}
+use Rattle.book_format.proofs.Passed.{length-usersOf}
 use Rattle.book_format.proofs.Places.{header-lies}
 use Rattle.book_format.specs.Book.{bookOf, usersOf}
 use Rattle.risk_members.proofs.Members.{read-blocked}
@@ -14,17 +13,16 @@ use Rattle.call_told.proofs.is_flagged.Statement.{statement}
 use Rattle.call_told.proofs.is_flagged.Tie as tie
 
 user-at-requires : tie.Need-user-at-requires
-user-at-requires c κs = let s = c .before in record { form = passed (now (s .args .book)) (s .pre .0 .0) .form; inside = s .pre .0 .1 }
+user-at-requires c κs = let s = c .before in record { form = s .pre .0 .accepted .held .form; inside = s .pre .1 }
 
 read-prices-requires : tie.Need-read-prices-requires
-read-prices-requires c κs = let s = c .before .before in header-lies (passed (now (s .args .book)) (s .pre .0 .0) .form)
+read-prices-requires c κs = let s = c .before .before in header-lies (s .pre .0 .accepted .held .form)
 
 positions-of-requires : tie.Need-positions-of-requires
 positions-of-requires c κs =
     let u = c .before in
-    let k = u .before in
-    let s = k .before in
-    (accepted-of (now (s .args .book)) (λ j. k .shared-slice-known .given j .fits) (s .pre .0 .0), s .pre .0 .1, u .user-at .ensures)
+    let s = u .before .before in
+    (s .pre .0 .accepted, s .pre .1, u .user-at .ensures)
 
 flagged-requires : tie.Need-flagged-requires
 unfolding bookOf
@@ -34,9 +32,9 @@ flagged-requires c κs =
     let s = u .before .before in
     let b = now (s .args .book) in
     let v = getD (usersOf b) (s .args .place) nobody in (
-      s .pre .1,
-      subst InRange (sym (p .read-prices .ensures)) (prices-within b (s .pre .0 .0)),
-      omega (arith, read-blocked (u .user-at .result) v (u .user-at .ensures), blocked-within b (s .pre .0 .0) (s .pre .0 .1)),
+      s .pre .0 .limits-in,
+      subst InRange (sym (p .read-prices .ensures)) (prices-within b (s .pre .0 .passes)),
+      omega (arith, read-blocked (u .user-at .result) v (u .user-at .ensures), blocked-within b (s .pre .0 .passes) (s .pre .1)),
     )
 
 returns : tie.Need-returns
@@ -49,7 +47,7 @@ returns c =
     let b = now (s .args .book) in
     let v = getD (usersOf b) (s .args .place) nobody in
     c .flagged .ensures v (read-blocked (u .user-at .result) v (u .user-at .ensures))
-    ∙ flagged-row (bookOf b) (s .args .place) (omega (arith, length-usersOf b, s .pre .0 .1)) (asLimits (s .args .limits)) (p .read-prices .ensures) (a .positions-of .result) (a .positions-of .ensures)
+    ∙ flagged-row (bookOf b) (s .args .place) (omega (arith, length-usersOf b, s .pre .1)) (asLimits (s .args .limits)) (p .read-prices .ensures) (a .positions-of .result) (a .positions-of .ensures)
 
 pub is-flagged-spec : {M : Type 1} → statement M
 is-flagged-spec = tie.close (tie.spec user-at-requires read-prices-requires positions-of-requires flagged-requires returns)

@@ -1,7 +1,5 @@
 -- `trade` gives the empty part and the number of the entry, or the 20 bytes where the trade of the ordinal stands, or the empty part past the last. Assumes nothing.
 use Rattle.base.specs.Basics.{_≡_, _∙_, refl, List, ℕ, _+_, _-_, _≤_, _<_, arith, now, needs}
-use Rattle.book_format.proofs.Held.{accepted-of}
-use Rattle.book_format.proofs.Passed.{passed}
 use Rattle.book_format.specs.Book.{tradeCount}
 use Rattle.book_format.specs.Questions.{Formed}
 use Rattle.call_told.proofs.Asked.{found-above}
@@ -22,7 +20,10 @@ opened : (c : tie.Else1) → start (entered c) .args .opened ≡ 0
 opened c = entered c .seek-shipper .ensures .start (c .if1 .left)
 
 form : (c : tie.Else1) → Formed (bytes (entered c))
-form c = passed (bytes (entered c)) (start (entered c) .pre .0 (opened c)) .form
+form c = start (entered c) .pre (opened c) .book .accepted .held .form
+
+seek-shipper-requires : tie.Need-seek-shipper-requires
+seek-shipper-requires c κs = λ z. c .before .pre z .passes
 
 returns : tie.Need-returns
 returns c =
@@ -37,7 +38,7 @@ place-seen-requires : tie.Need-place-seen-requires
 place-seen-requires c κs =
     let n = c .before in
     let e = entered n in
-    (record { accepted = accepted-of _ (λ j. e .before .shared-slice-known .given j .fits) (start e .pre .0 (opened n)); placed = start e .pre .1 (opened n) }, found-above (e .seek-shipper .ensures .found (n .if1 .left)))
+    (start e .pre (opened n) .book, found-above (e .seek-shipper .ensures .found (n .if1 .left)))
 
 returns-2 : tie.Need-returns-2
 returns-2 c =
@@ -90,7 +91,7 @@ pub trade-spec : {M : Type 1} → statement M
 trade-spec =
     tie.close
     (tie.spec
-    (λ c κs. search needs)
+    seek-shipper-requires
     (λ c. search needs)
     returns
     trade-count-requires

@@ -27,7 +27,7 @@ role : (c : tie.After-user-at) → c .user-at .result .role ≡ user (start c) .
 role c = read-role (c .user-at .result) (user (start c)) (c .user-at .ensures)
 
 user-at-requires : tie.Need-user-at-requires
-user-at-requires c κs = let s = c .before in user-in (s .pre .0 .0) (s .pre .0 .2)
+user-at-requires c κs = let s = c .before in user-in (s .pre .0 .0 .figures) (s .pre .0 .1)
 
 returns : tie.Need-returns
 unfolding asRow
@@ -40,19 +40,19 @@ holdings-of-requires : tie.Need-holdings-of-requires
 holdings-of-requires c κs =
     let k = c .before .before in
     let s = start k in
-    (s .pre .0 .0 .accepted, s .pre .0 .1, s .pre .0 .2, k .user-at .ensures)
+    (s .pre .0 .0 .figures .accepted, s .pre .0 .0 .sums-are, s .pre .0 .1, k .user-at .ensures)
 
 level-of-requires : tie.Need-level-of-requires
 level-of-requires c κs =
     let k = c .before .before .before in
     let s = start k in
-    ((s .pre .0 .0 .passes, s .pre .0 .2, s .pre .0 .0 .limits-in), (k .user-at .ensures, c .holdings-of .ensures))
+    ((s .pre .0 .0 .figures, s .pre .0 .1), (k .user-at .ensures, c .holdings-of .ensures))
 
 level-of-requires-2 : tie.Need-level-of-requires-2
 level-of-requires-2 c κs =
     let k = c .before .before .before .before in
     let s = start k in
-    ((s .pre .0 .0 .passes, s .pre .0 .2, s .pre .0 .0 .limits-in), (k .user-at .ensures, c .before .holdings-of .ensures))
+    ((s .pre .0 .0 .figures, s .pre .0 .1), (k .user-at .ensures, c .before .holdings-of .ensures))
 
 state-at-requires : tie.Need-state-at-requires
 unfolding levelOf
@@ -60,7 +60,7 @@ state-at-requires c κs =
     let h = c .before .before in
     let k = h .before .before .before in
     let s = start k in
-    ((s .pre .0 .0, s .pre .0 .2), ((k .user-at .ensures, h .holdings-of .ensures), (c .level-of2 .ensures, s .pre .1)))
+    ((s .pre .0 .0 .figures, s .pre .0 .1), ((k .user-at .ensures, h .holdings-of .ensures), (c .level-of2 .ensures, s .pre .1)))
 
 returns-2 : tie.Need-returns-2
 unfolding asRow levelOf

@@ -16,17 +16,17 @@ loop-holds : tie.Need-loop-holds Inv-loop μ-loop
 loop-holds c =
     let s = c .before .before in
     let b = now (s .args .book) in
-    filled-start (asLimits (s .args .limits)) (bookOf b) (users-few b (s .pre .0 .passes)) (c .no-users .ensures)
+    filled-start (asLimits (s .args .limits)) (bookOf b) (users-few b (s .pre .0 .figures .passes)) (c .no-users .ensures)
 
 -- the turn's user is one of the book's
 abbrev start : tie.In-loop Inv-loop μ-loop → tie.Start Inv-loop μ-loop
 start c = c .before .before .before .before
 
 inside : (c : tie.In-loop Inv-loop μ-loop) → c .before .loop .i < userCount (now (start c .args .book))
-inside c = omega (arith, c .loop-test .taken, start c .pre .2)
+inside c = omega (arith, c .loop-test .taken, start c .pre .1)
 
 few : (c : tie.In-loop Inv-loop μ-loop) → c .before .loop .i < 64
-few c = let b = now (start c .args .book) in omega (arith, inside c, users-many b, users-few b (start c .pre .0 .passes))
+few c = let b = now (start c .args .book) in omega (arith, inside c, users-many b, users-few b (start c .pre .0 .figures .passes))
 
 element-copy-out-levels-at : tie.Need-element-copy-out-levels-at Inv-loop μ-loop
 element-copy-out-levels-at c = omega (arith, few c)
@@ -35,7 +35,7 @@ levels-at-requires : tie.Need-levels-at-requires Inv-loop μ-loop
 levels-at-requires c κs =
     let l = c .before in
     let s = start l in
-    ((s .pre .0, s .pre .1, inside l), flag-at (now (s .args .book)) (s .pre .3) (l .before .loop .i) (inside l))
+    ((s .pre .0, inside l), flag-at (now (s .args .book)) (s .pre .2) (l .before .loop .i) (inside l))
 
 mul-rows : tie.Need-mul-rows Inv-loop μ-loop
 mul-rows c = omega (arith, few (c .before .before))
@@ -55,7 +55,7 @@ returns : tie.Need-returns Inv-loop μ-loop
 returns c =
     let s = c .before .before .before .before in
     let b = now (s .args .book) in
-    filled-end (asLimits (s .args .limits)) (bookOf b) (c .before .loop .inv) (omega (arith, c .loop-test .left, s .pre .2, users-many b))
+    filled-end (asLimits (s .args .limits)) (bookOf b) (c .before .loop .inv) (omega (arith, c .loop-test .left, s .pre .1, users-many b))
 
 pub rows-of-spec : {M : Type 1} → statement M
 rows-of-spec =

@@ -1,6 +1,6 @@
 -- `state_at`: the user is called in by its positions as its risk is borne, and its state follows from its level. Assumes nothing.
 use Rattle.base.specs.Basics.{_≡_, sym, ap, subst, _∙_, List, ℕ, arith, getD, now, needs}
-use Rattle.book_format.proofs.Passed.{length-usersOf, passed}
+use Rattle.book_format.proofs.Passed.{length-usersOf}
 use Rattle.book_format.proofs.Places.{header-lies}
 use Rattle.book_format.specs.Book.{bookOf, usersOf}
 use Rattle.book_records.specs.User.{asAmounts}
@@ -50,7 +50,7 @@ state-of-requires c κs =
     let p = c .before .before .before in
     let s = p .before .before in
     let u = s .pre .0 .0 in
-    (accepted-day (bytes s) (passed (bytes s) (u .passes) .sound) (priced p) (u .limits-in), user-in u (s .pre .0 .1))
+    (accepted-day u (priced p), user-in u (s .pre .0 .1))
 
 -- the user is called in
 called : (c : tie.After-called-in) → let s = c .before .before .before .before .before in c .called-in .result ≡ calledIn (asLimits (s .args .limits)) (bookOf (bytes s)) (user s)

@@ -6,8 +6,7 @@ use Rattle.rules.specs.Levels.{Limits, flagged}
 use Rattle.rules.specs.Queries.{aWarning, onlyNumber}
 use Rattle.units.specs.Limits.{asLimits}
 use Rattle.book_format.specs.Book.{bookOf, usersOf}
-use Rattle.book_format.specs.Held.{Accepted}
-use Rattle.book_format.proofs.Held.{accepted-of}
+use Rattle.book_questions.specs.Opened.{OpenedFigures}
 use Rattle.book_format.proofs.Places.{header-lies}
 use Rattle.risk_members.proofs.Members.{read-blocked, read-id, read-role}
 use Rattle.call_entry.specs.Entered.{Found}
@@ -36,7 +35,7 @@ started : (c : tie.Else1) → opened (c .before) ≡ 0
 started c = c .before .seek .ensures .start (c .if1 .left)
 
 seek-requires : tie.Need-seek-requires
-seek-requires c κs = c .before .pre .0
+seek-requires c κs = λ z. c .before .pre z .passes
 
 returns : tie.Need-returns
 unfolding onlyNumber
@@ -64,18 +63,19 @@ returns-2 c =
 abbrev user : tie.Else2 → tie.After-user-at
 user c = c .before .before
 
-accepted : (n : tie.Else1) → Accepted (bytes (n .before))
-accepted n = accepted-of (bytes (n .before)) (λ j. n .before .before .shared-slice-known .given j .fits) (found n .passes)
+-- what the opening questions give
+told : (n : tie.Else1) → OpenedFigures (figures (n .before)) (bytes (n .before))
+told n = n .before .before .before .pre (started n)
 
 read-prices-requires : tie.Need-read-prices-requires
-read-prices-requires c κs = header-lies (accepted (user c .before) .held .form)
+read-prices-requires c κs = header-lies (told (user c .before) .accepted .held .form)
 
 priced : (c : tie.After-read-prices) → let n = user (c .before) .before in Priced (bytes (n .before)) (c .read-prices .result)
 unfolding bookOf
-priced c = let n = user (c .before) .before in record { passes = found n .passes; accepted = accepted n; same = sym (c .read-prices .ensures) }
+priced c = let n = user (c .before) .before in record { passes = found n .passes; accepted = told n .accepted; same = sym (c .read-prices .ensures) }
 
 positions-of-requires : tie.Need-positions-of-requires
-positions-of-requires c κs = let u = user (c .before) in (accepted (u .before), found (u .before) .known, u .user-at .ensures)
+positions-of-requires c κs = let u = user (c .before) in (told (u .before) .accepted, found (u .before) .known, u .user-at .ensures)
 
 flagged-requires : tie.Need-flagged-requires
 flagged-requires c κs =
@@ -83,7 +83,7 @@ flagged-requires c κs =
     let u = user (p .before) in
     let e = u .before .before in
     let f = found (u .before) in
-    (e .before .before .pre .1, prices-range (priced p), blocked-most (bytes e) (f .passes) (f .known) (u .user-at .result) (u .user-at .ensures))
+    (told (u .before) .limits-in, prices-range (priced p), blocked-most (bytes e) (f .passes) (f .known) (u .user-at .result) (u .user-at .ensures))
 
 -- whether the user of the id is flagged in the book of the bytes
 flag-is : (c : tie.After-flagged) → let u = user (c .before .before .before) in let e = u .before .before in
@@ -112,7 +112,7 @@ returns-3 c =
 any-warns-requires : tie.Need-any-warns-requires
 any-warns-requires c κs =
     let p = c .before .before .before in
-    (priced p, user (p .before) .before .before .before .before .pre .1)
+    (priced p, told (user (p .before) .before) .limits-in)
 
 returns-4 : tie.Need-returns-4
 unfolding aWarning

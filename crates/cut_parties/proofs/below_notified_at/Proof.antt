@@ -35,7 +35,7 @@ returns c =
     let s = c .before .before .before .before .before .before .before .before in
     let a = s .args in
     let inside : a .place < userCount (now (a .book)) = omega (arith, s .pre .3, s .pre .1) in
-    one-found (now (a .book)) (now (a .sellers)) (now (a .buyers)) (s .pre .0) (a .place) inside
+    one-found (now (a .book)) (now (a .bearing-sellers)) (now (a .bearing-buyers)) (s .pre .0) (a .place) inside
     (c .before .before .before .before .before .loop .inv) (omega (arith, c .before .before .before .before .loop-test .taken, s .pre .2))
     (c .before .is-below-notified .ensures) (c .if1 .taken)
 
@@ -44,7 +44,7 @@ loop-again c =
     let s = c .before .before .before .before .before .before .before .before in
     let a = s .args in
     let inside : a .place < userCount (now (a .book)) = omega (arith, s .pre .3, s .pre .1) in
-    one-more (now (a .book)) (now (a .sellers)) (now (a .buyers)) (s .pre .0) (a .place) inside
+    one-more (now (a .book)) (now (a .bearing-sellers)) (now (a .bearing-buyers)) (s .pre .0) (a .place) inside
     (c .before .before .before .before .before .loop .inv) (omega (arith, c .before .before .before .before .loop-test .taken, s .pre .2))
     (c .before .is-below-notified .ensures) (c .if1 .left)
 
@@ -54,7 +54,7 @@ returns-2 c =
     let a = s .args in
     let inside : a .place < userCount (now (a .book)) = omega (arith, s .pre .3, s .pre .1) in
     let all : tradeCount (now (a .book)) ≤ c .before .loop .i = omega (arith, c .loop-test .left, s .pre .2) in
-    one-none (now (a .book)) (now (a .sellers)) (now (a .buyers)) (s .pre .0) (a .place) inside (c .before .loop .inv) all
+    one-none (now (a .book)) (now (a .bearing-sellers)) (now (a .bearing-buyers)) (s .pre .0) (a .place) inside (c .before .loop .inv) all
 
 pub below-notified-at-spec : {M : Type 1} → statement M
 below-notified-at-spec =

@@ -15,7 +15,7 @@ user-at-requires : tie.Need-user-at-requires
 user-at-requires c κs = line-user (c .before .pre)
 
 level-at-requires : tie.Need-level-at-requires
-level-at-requires c κs = let p = c .before .before .before .pre in (line-day p, line-user p, p .low)
+level-at-requires c κs = let p = c .before .before .before .pre in (line-day p, line-user p, p .risk .sums-are .low)
 
 called-at-requires : tie.Need-called-at-requires
 called-at-requires c κs = let p = c .before .before .before .before .pre in (line-day p, line-user p)

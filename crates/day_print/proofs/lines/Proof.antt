@@ -1,12 +1,12 @@
 -- `day_print::lines`: an accepted book passes the questions again, which tell the sums of its users and the places of the parties of its trades. Assumes nothing.
-use mathlib.Core.Path.{_≡_, refl}
+use mathlib.Core.Path.{_≡_, _∙_, refl}
 use native.Mathlib.Omega.{arith}
 use borrow.Author.Needs.{needs}
 use denote.Ref.{now}
 use Rattle.book_format.proofs.Passed.{passed}
 use Rattle.book_format.proofs.Places.{header-lies}
 use Rattle.book_format.specs.Book.{bookOf, tradeCount, userCount}
-use Rattle.day_print.proofs.Told.{asked-book, lines-asked}
+use Rattle.book_questions.proofs.Asked.{parties-opened, sums-told}
 use Rattle.day_print.proofs.lines.Statement.{statement}
 use Rattle.day_print.proofs.lines.Tie as tie
 
@@ -31,8 +31,13 @@ trades-are c = c .trade-count .ensures
 bear-requires : tie.Need-bear-requires
 bear-requires c κs =
     let a = c .before .before .before .before .before .before .before in
-    let k = asked-book (a .ask .ensures .0) (a .ask .ensures .1) (λ j. a .before .before .before .before .shared-slice-known .given j .fits) (start a .pre) in
-    ((k .0, a .ask .kept .1 .0, a .ask .kept .1 .1 .0, refl, refl), k .1)
+    let told = a .ask .ensures in (
+      (
+        parties-opened (told .0) (λ j. a .before .before .before .before .shared-slice-known .given j .fits) (start a .pre) (a .ask .kept .1 .0) (a .ask .kept .1 .1 .0),
+        sums-told (told .1) (told .0 .number ∙ start a .pre),
+      ),
+      (refl, refl),
+    )
 
 read-prices-requires : tie.Need-read-prices-requires
 read-prices-requires c κs = let s = start (asked (c .before)) in header-lies (passed (now (s .args .book)) (s .pre) .form)
@@ -60,8 +65,16 @@ lines-of-requires c κs =
     let p = m .before .before in
     let b = borne m in
     let k = b .bear .ensures in
-    lines-asked (record { book = k .0; limits-in = p .before .today .ensures .1; prices-are = p .read-prices .ensures; twelve = k .1 .0; low = k .1 .1 }) (start (asked b) .pre) (users-are (m .before))
-    (q .fill-positions .ensures .0) (f .fill-below-notified .ensures)
+    record {
+      risk = record {
+        opened = record { passes = start (asked b) .pre; accepted = k .0 .accepted; limits-in = p .before .today .ensures .1 };
+        prices-are = p .read-prices .ensures;
+        sums-are = k .1;
+      };
+      users-are = users-are (m .before);
+      positions = q .fill-positions .ensures .0;
+      below = f .fill-below-notified .ensures;
+    }
 
 pub lines-spec : {M : Type 1} → statement M
 lines-spec =

@@ -2,8 +2,6 @@
 use Prim.Native.Nat.{_≤_, _-_}
 use native.Mathlib.Omega.{arith}
 use borrow.Author.Needs.{needs}
-use denote.Ref.{now}
-use Rattle.book_format.proofs.Passed.{passed}
 use Rattle.day_print.proofs.Told.{line-asked}
 use Rattle.day_print.proofs.lines_of.Statement.{statement}
 use Rattle.day_print.proofs.lines_of.Tie as tie
@@ -17,7 +15,7 @@ abbrev μ-loop : tie.MeasureT-loop
 element-copy-out-line-at : tie.Need-element-copy-out-line-at Inv-loop μ-loop
 element-copy-out-line-at c =
     let s = c .before .before .before in
-    omega (arith, c .loop-test .taken, s .pre .users-are, passed (now (s .args .book)) (s .pre .passes) .form .users)
+    omega (arith, c .loop-test .taken, s .pre .users-are, s .pre .risk .opened .accepted .held .form .users)
 
 line-at-requires : tie.Need-line-at-requires Inv-loop μ-loop
 line-at-requires c κs = line-asked (c .before .before .before .before .pre) (c .before .before .loop .i) (c .before .loop-test .taken)

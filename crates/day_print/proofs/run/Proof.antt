@@ -6,17 +6,20 @@ use denote.Ref.{now}
 use Rattle.call_answers.specs.Run.{answerOf}
 use Rattle.call_run.specs.Call.{runCall}
 use Rattle.book_format.specs.After.{CalledAfter}
-use Rattle.book_questions.proofs.Asked.{parties-found}
-use Rattle.rules.specs.Levels.{Limits, today}
+use Rattle.book_questions.proofs.Asked.{book-opened}
+use Rattle.rules.specs.Levels.{Limits}
 use Rattle.day_print.proofs.run.Statement.{statement}
 use Rattle.day_print.proofs.run.Tie as tie
 
 run-requires : tie.Need-run-requires
 run-requires c κs =
     let t = c .before .before .before in
-    let a = t .before .before .before .before .ask in
+    let at-ask = t .before .before .before .before in
+    let a = at-ask .ask in
     let told = a .ensures in
-    (λ z. sym (told .0 .number) ∙ z, (t .today .ensures .1, ((a .kept .1 .0, a .kept .1 .1 .0), parties-found (told .1) (λ z. z) (told .0))))
+    λ z.
+    book-opened (told .0) (λ j. at-ask .before .before .before .before .before .slice-known .given j .fits) (sym (told .0 .number) ∙ z) (a .kept .1 .0) (a .kept .1 .1 .0)
+    (told .1) (t .today .ensures .1)
 
 returns : tie.Need-returns
 returns c =

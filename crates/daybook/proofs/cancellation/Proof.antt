@@ -6,10 +6,7 @@ use Rattle.daybook.proofs.cancellation.Statement.{statement}
 use Rattle.daybook.proofs.cancellation.Tie as tie
 
 cancellation-requires : tie.Need-cancellation-requires
-cancellation-requires c κs =
-    let a = c .before .before .before .before .before .before .admit-with-sums in
-    let k = a .ensures in
-    (k .1 .1 .0, (k .1 .0, ((a .kept .1 .1 .1 .1 .1 .0, a .kept .1 .1 .1 .1 .1 .1 .0), k .1 .1 .1)))
+cancellation-requires c κs = c .before .before .before .before .before .before .admit-with-sums .ensures .1
 
 returns : tie.Need-returns
 unfolding matterBy

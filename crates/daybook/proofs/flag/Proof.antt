@@ -6,6 +6,9 @@ use Rattle.daybook.proofs.Matters.{of-id}
 use Rattle.daybook.proofs.flag.Statement.{statement}
 use Rattle.daybook.proofs.flag.Tie as tie
 
+flag-requires : tie.Need-flag-requires
+flag-requires c κs = c .before .admit .ensures .1
+
 returns : tie.Need-returns
 unfolding idOf
 returns c =
@@ -14,4 +17,4 @@ returns c =
     c .flag .ensures ∙ told-by (flagOf (o .args .id)) (of-id _ (o .args .id) (omega (arith, o .fits .id)) (k .admit .ensures .0))
 
 pub flag-spec : {M : Type 1} → statement M
-flag-spec = tie.close (tie.spec (λ c κs. search needs) (λ c κs. search needs) returns)
+flag-spec = tie.close (tie.spec (λ c κs. search needs) flag-requires returns)

@@ -6,13 +6,11 @@ use Rattle.daybook.proofs.level.Statement.{statement}
 use Rattle.daybook.proofs.level.Tie as tie
 
 level-requires : tie.Need-level-requires
-level-requires c κs =
-    let k = c .before .before .before .before .before .before .admit-with-sums .ensures in
-    (k .1 .1 .0, (k .1 .0, k .1 .1 .1))
+level-requires c κs = λ z. c .before .before .before .before .admit-with-sums .ensures .1 z .summed
 
 returns : tie.Need-returns
 returns c =
-    let k = c .before .before .before .before .before .before .before in
+    let k = c .before .before .before .before .before in
     let o = k .before .before .before .before .before .before in
     c .level .ensures ∙ replied-by _ (of-level _ (o .args .afternoon) (o .args .id) (omega (arith, o .fits .id)) (k .admit-with-sums .ensures .0))
 

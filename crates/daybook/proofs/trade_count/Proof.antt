@@ -8,9 +8,7 @@ use Rattle.daybook.proofs.trade_count.Statement.{statement}
 use Rattle.daybook.proofs.trade_count.Tie as tie
 
 count-requires : tie.Need-count-requires
-count-requires c κs =
-    let k = c .before .before .before .before .admit-with-sums .ensures in
-    (k .1 .1 .0, k .1 .1 .1 .placed)
+count-requires c κs = λ z. c .before .before .before .before .admit-with-sums .ensures .1 z .parties
 
 returns : tie.Need-returns
 unfolding idOf

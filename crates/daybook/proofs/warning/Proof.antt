@@ -5,9 +5,12 @@ use Rattle.rights.specs.Party.{matterBy, matterOf}
 use Rattle.daybook.proofs.warning.Statement.{statement}
 use Rattle.daybook.proofs.warning.Tie as tie
 
+warning-requires : tie.Need-warning-requires
+warning-requires c κs = c .before .admit .ensures .1
+
 returns : tie.Need-returns
 unfolding matterOf matterBy
 returns c = c .warning .ensures ∙ replied-by _ (c .before .before .admit .ensures .0)
 
 pub warning-spec : {M : Type 1} → statement M
-warning-spec = tie.close (tie.spec (λ c κs. search needs) (λ c κs. search needs) returns)
+warning-spec = tie.close (tie.spec (λ c κs. search needs) warning-requires returns)

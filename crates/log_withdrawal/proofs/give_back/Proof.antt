@@ -11,10 +11,10 @@ use Rattle.log_withdrawal.proofs.give_back.Statement.{statement}
 use Rattle.log_withdrawal.proofs.give_back.Tie as tie
 
 abbrev Inv-loop : tie.InvT-loop
-Inv-loop book₀ at m sellers parties entry k₀ book k = GivenTo (bookOf book₀) (cutsFrom m 0 entry) book k × (length book ≡ length book₀)
+Inv-loop book₀ at m sellers buyers entry k₀ book k = GivenTo (bookOf book₀) (cutsFrom m 0 entry) book k × (length book ≡ length book₀)
 
 abbrev μ-loop : tie.MeasureT-loop
-μ-loop book₀ at m sellers parties entry k₀ book k = m - k
+μ-loop book₀ at m sellers buyers entry k₀ book k = m - k
 
 -- as many trades as cuts
 trades-are : (c : tie.Start Inv-loop μ-loop) → length (bookOf (now (c .args .book)) .trades) ≡ c .args .m

@@ -2,7 +2,7 @@
 -- the bytes, gives the rules' book. Assumes nothing.
 use Rattle.base.specs.Basics.{_≡_, refl, now, needs}
 use Rattle.book_format.specs.Book.{tradeCount, userCount}
-use Rattle.run_reduction.proofs.Steps.{run-day}
+use Rattle.run_reduction.proofs.Steps.{accepted-day}
 use Rattle.run_book.proofs.Ending.{lost-cuttable, ran-in, ran-left}
 use Rattle.run_book.proofs.Start.{run-going, run-opening}
 use Rattle.run_reduction.proofs.Start.{run-stays}
@@ -29,9 +29,9 @@ fill-targets-requires c κs =
     let s = c .before .before .before .before .before .before .before .before .before .before .before .before .before .before .before .before in
     let r = s .pre .1 .0 in
     let l = s .pre .1 .1 in (
-      (run-day (run-stays r l), r .low),
+      accepted-day (r .risk .opened) (r .risk .prices-are),
       (
-        run-opening r l (users-are (c .before .before .before .before .before .before .before .before .before .before .before .before .before))
+        run-opening (r .risk) l (users-are (c .before .before .before .before .before .before .before .before .before .before .before .before .before))
             (c .before .before .before .before .before .before .before .before .fill-positions .ensures .0)
             (c .before .before .before .before .before .fill-below-notified .ensures),
         refl,
@@ -46,13 +46,14 @@ copy-sales-requires c κs =
 
 run-on-requires : tie.Need-run-on-requires
 run-on-requires c κs =
-    let s = c .before .before .before .before .before .before .before .before .before .before .before .before .before .before .before .before .before .before .before .before .before .before .before .before in
-    let r = s .pre .1 .0 in
+    let at-users-are = c .before .before .before .before .before .before .before .before .before .before .before .before .before .before .before .before .before .before .before .before .before in
+    let s = at-users-are .before .before .before in
+    let r = s .pre .1 .0 .risk in
     let l = s .pre .1 .1 in
     let copied = c .before .before .before .before .before .copy-sales .ensures in
     let filled = c .before .before .before .before .before .before .before .before .before .before .before .before .before .before .before .before .fill-positions .ensures in
     let owed = c .before .before .before .before .before .before .before .fill-targets .ensures in
-    ((run-stays r l, users-are (c .before .before .before .before .before .before .before .before .before .before .before .before .before .before .before .before .before .before .before .before .before)), run-going r l (copied .0) (copied .1) (filled .0) (filled .1) (owed .0) (owed .1) (owed .2))
+    ((run-stays r l, users-are at-users-are), run-going r l (copied .0) (copied .1) (filled .0) (filled .1) (owed .0) (owed .1) (owed .2))
 
 lost-of-requires : tie.Need-lost-of-requires
 lost-of-requires c κs =

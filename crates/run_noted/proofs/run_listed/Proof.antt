@@ -4,7 +4,7 @@ use Rattle.book_format.specs.Book.{tradeCount, userCount}
 use Rattle.run_book.proofs.Ending.{lost-cuttable, ran-in, ran-left}
 use Rattle.run_book.proofs.Start.{run-going, run-opening}
 use Rattle.run_reduction.proofs.Start.{run-stays}
-use Rattle.run_reduction.proofs.Steps.{run-day}
+use Rattle.run_reduction.proofs.Steps.{accepted-day}
 use Rattle.run_noted.proofs.Books.{listed-origins, noted-in}
 use Rattle.run_noted.proofs.run_listed.Statement.{statement}
 use Rattle.run_noted.proofs.run_listed.Tie as tie
@@ -30,8 +30,8 @@ fill-targets-requires c κs =
     let s = at-users-are .before .before .before .before in
     let r = s .pre .1 .0 in
     let l = s .pre .1 .1 .0 in (
-      (run-day (run-stays r l), r .low),
-      (run-opening r l (users-are at-users-are) (at-fill-positions .fill-positions .ensures .0) (at-fill-below-notified .fill-below-notified .ensures), refl, refl),
+      accepted-day (r .risk .opened) (r .risk .prices-are),
+      (run-opening (r .risk) l (users-are at-users-are) (at-fill-positions .fill-positions .ensures .0) (at-fill-below-notified .fill-below-notified .ensures), refl, refl),
     )
 
 copy-sales-requires : tie.Need-copy-sales-requires
@@ -51,9 +51,9 @@ run-on-requires c κs =
     let copied = at-copy-sales .copy-sales .ensures in
     let filled = at-fill-positions .fill-positions .ensures in
     let owed = at-fill-targets .fill-targets .ensures in (
-      (run-stays r l, users-are at-users-are),
+      (run-stays (r .risk) l, users-are at-users-are),
       (
-        run-going r l (copied .0) (copied .1) (filled .0) (filled .1) (owed .0) (owed .1) (owed .2),
+        run-going (r .risk) l (copied .0) (copied .1) (filled .0) (filled .1) (owed .0) (owed .1) (owed .2),
         (listed-origins l, s .pre .1 .1 .1 .0, s .pre .1 .1 .1 .1),
       ),
     )

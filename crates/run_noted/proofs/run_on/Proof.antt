@@ -20,7 +20,7 @@ abbrev μ-loop : tie.MeasureT-loop
 loop-holds : tie.Need-loop-holds Inv-loop μ-loop
 loop-holds c =
     let s = c .before .before .before .before .before in
-    noted-start (s .pre .0 .1) (s .pre .0 .0 .sound) (s .pre .1 .0) none-cuts (length-replicate {A = ℕ} 256 0) (c .before .before .none .ensures) (c .next-from .ensures) (s .pre .1 .1 .1)
+    noted-start (s .pre .0 .1) (s .pre .0 .0 .risk .opened .accepted .sound) (s .pre .1 .0) none-cuts (length-replicate {A = ℕ} 256 0) (c .before .before .none .ensures) (c .next-from .ensures) (s .pre .1 .1 .1)
 
 same-length : tie.Need-same-length Inv-loop μ-loop
 same-length c = c .before .before .loop .inv .size
@@ -28,7 +28,7 @@ same-length c = c .before .before .loop .inv .size
 returns : tie.Need-returns Inv-loop μ-loop
 returns c =
     let s = c .before .before .before .before .before .before .before .before in
-    noted-end (s .pre .0 .1) (s .pre .0 .0 .sound) (c .before .before .loop .inv) true (λ f. absurd (subst T f tt)) (λ y. (c .before .loop-test .taken, c .if1 .taken))
+    noted-end (s .pre .0 .1) (s .pre .0 .0 .risk .opened .accepted .sound) (c .before .before .loop .inv) true (λ f. absurd (subst T f tt)) (λ y. (c .before .loop-test .taken, c .if1 .taken))
 
 turn-requires : tie.Need-turn-requires Inv-loop μ-loop
 turn-requires c κs =
@@ -37,37 +37,37 @@ turn-requires c κs =
     let many = s .pre .0 .1 in
     let p = c .before .before .before .before .before .before .before .before .loop .inv .run in
     let k = c .before .before .before .before .before .before .before .loop-test .taken in
-    ((q, omega (arith, k, many), p .here k), (run-ongoing many (q .sound) p, p .none-cut, p .rests-room))
+    ((q, omega (arith, k, many), p .here k), (run-ongoing many (q .risk .opened .accepted .sound) p, p .none-cut, p .rests-room))
 
 mul-from : tie.Need-mul-from Inv-loop μ-loop
 mul-from c =
     let at-tested = c .before .before .before .before .before .before .before .before in
     let at-begun = at-tested .before .before .before .before .before .before .before in
-    omega (arith, at-tested .loop-test .taken, at-begun .pre .0 .1, at-begun .pre .0 .0 .form .users)
+    omega (arith, at-tested .loop-test .taken, at-begun .pre .0 .1, at-begun .pre .0 .0 .risk .opened .accepted .held .form .users)
 
 element-copy-out-from : tie.Need-element-copy-out-from Inv-loop μ-loop
 element-copy-out-from c =
     let at-tested = c .before .before .before .before .before .before .before .before in
     let at-begun = at-tested .before .before .before .before .before .before .before in
-    omega (arith, at-tested .loop-test .taken, at-begun .pre .0 .1, at-begun .pre .0 .0 .form .users)
+    omega (arith, at-tested .loop-test .taken, at-begun .pre .0 .1, at-begun .pre .0 .0 .risk .opened .accepted .held .form .users)
 
 add-to : tie.Need-add-to Inv-loop μ-loop
 add-to c =
     let at-tested = c .before .before .before .before .before .before .before .before .before in
     let at-begun = at-tested .before .before .before .before .before .before .before in
-    omega (arith, at-tested .loop-test .taken, at-begun .pre .0 .1, at-begun .pre .0 .0 .form .users)
+    omega (arith, at-tested .loop-test .taken, at-begun .pre .0 .1, at-begun .pre .0 .0 .risk .opened .accepted .held .form .users)
 
 mul-to : tie.Need-mul-to Inv-loop μ-loop
 mul-to c =
     let at-tested = c .before .before .before .before .before .before .before .before .before in
     let at-begun = at-tested .before .before .before .before .before .before .before in
-    omega (arith, at-tested .loop-test .taken, at-begun .pre .0 .1, at-begun .pre .0 .0 .form .users)
+    omega (arith, at-tested .loop-test .taken, at-begun .pre .0 .1, at-begun .pre .0 .0 .risk .opened .accepted .held .form .users)
 
 element-copy-out-to : tie.Need-element-copy-out-to Inv-loop μ-loop
 element-copy-out-to c =
     let at-tested = c .before .before .before .before .before .before .before .before .before in
     let at-begun = at-tested .before .before .before .before .before .before .before in
-    omega (arith, at-tested .loop-test .taken, at-begun .pre .0 .1, at-begun .pre .0 .0 .form .users)
+    omega (arith, at-tested .loop-test .taken, at-begun .pre .0 .1, at-begun .pre .0 .0 .risk .opened .accepted .held .form .users)
 
 note-requires : tie.Need-note-requires Inv-loop μ-loop
 note-requires c κs =
@@ -100,7 +100,7 @@ with-requires c κs =
     let at-loop = at-tested .before in
     let s = at-loop .before .before .before .before .before .before in
     let many = s .pre .0 .1 in
-    let sound = s .pre .0 .0 .sound in
+    let sound = s .pre .0 .0 .risk .opened .accepted .sound in
     let p = at-loop .loop .inv .run in
     (run-within many sound p, turn-within many sound p (at-tested .loop-test .taken) (at-turn .turn .ensures .0 (p .book) (p .going)))
 
@@ -114,7 +114,7 @@ next-from-requires-2 c κs =
     let at-loop = at-tested .before in
     let s = at-loop .before .before .before .before .before .before in
     let p = at-loop .loop .inv .run in
-    (omega (arith, at-tested .loop-test .taken, at-turn .turn .ensures .0 (p .book) (p .going) .least-most), omega (arith, s .pre .0 .1, s .pre .0 .0 .form .users))
+    (omega (arith, at-tested .loop-test .taken, at-turn .turn .ensures .0 (p .book) (p .going) .least-most), omega (arith, s .pre .0 .1, s .pre .0 .0 .risk .opened .accepted .held .form .users))
 
 loop-less : tie.Need-loop-less Inv-loop μ-loop
 unfolding ofRun
@@ -124,7 +124,7 @@ loop-less c =
     let s = at-loop .before .before .before .before .before .before in
     omega (
       arith,
-      run-more (s .pre .0 .1) (s .pre .0 .0 .sound) (at-loop .loop .inv .run) (at-tested .loop-test .taken),
+      run-more (s .pre .0 .1) (s .pre .0 .0 .risk .opened .accepted .sound) (at-loop .loop .inv .run) (at-tested .loop-test .taken),
       ap
           (λ (z : Answer). z .reductions) (c .before .before .with .ensures),
     )
@@ -141,7 +141,7 @@ loop-again c =
     let q = s .pre .0 .0 in
     let p = at-loop .loop .inv in
     let turn = at-turn .turn .ensures in
-    noted-more (s .pre .0 .1) (q .sound) p (at-tested .loop-test .taken) (room-left (p .few) (at-passed .if1 .left)) (few-trades q) (s .pre .1 .1 .0)
+    noted-more (s .pre .0 .1) (q .risk .opened .accepted .sound) p (at-tested .loop-test .taken) (room-left (p .few) (at-passed .if1 .left)) (few-trades q) (s .pre .1 .1 .0)
     (turn .0 (p .run .book) (p .run .going)) (at-note .note .ensures) (at-clear .clear .ensures) (turn .1 .1) (c .before .before .with .ensures)
     (c .next-from2 .ensures)
 
@@ -151,7 +151,7 @@ same-length-2 c = c .before .loop .inv .size
 returns-2 : tie.Need-returns-2 Inv-loop μ-loop
 returns-2 c =
     let s = c .before .before .before .before .before .before .before in
-    noted-end (s .pre .0 .1) (s .pre .0 .0 .sound) (c .before .loop .inv) false (λ f. c .loop-test .left) (λ y. absurd (subst T (sym y) tt))
+    noted-end (s .pre .0 .1) (s .pre .0 .0 .risk .opened .accepted .sound) (c .before .loop .inv) false (λ f. c .loop-test .left) (λ y. absurd (subst T (sym y) tt))
 
 pub run-on-spec : {M : Type 1} → statement M
 run-on-spec =

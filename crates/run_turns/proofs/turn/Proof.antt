@@ -21,7 +21,7 @@ look-again-requires c κs =
     let q = s .pre .0 .0 in
     let k = s .pre .0 .1 in
     let g = s .pre .1 .0 .going in
-    (run-day q, buyers-in q k g, q .low, turn-room q k g (s .pre .0 .2) _ _ (c .before .before .before .before .reduce .ensures .0) (s .pre .1 .1 .room), g .rooms .targets)
+    (run-day q, buyers-in q k g, q .risk .sums-are .low, turn-room q k g (s .pre .0 .2) _ _ (c .before .before .before .before .reduce .ensures .0) (s .pre .1 .1 .room), g .rooms .targets)
 
 any-left-requires : tie.Need-any-left-requires
 any-left-requires c κs =
@@ -33,23 +33,23 @@ any-left-requires c κs =
 element-write-eligible : tie.Need-element-write-eligible
 element-write-eligible c =
     let s = c .before .before .before .before .before .before .before .before .before .before .before .before .before .before .before .before in
-    omega (arith, s .pre .0 .1, s .pre .0 .0 .form .users)
+    omega (arith, s .pre .0 .1, s .pre .0 .0 .risk .opened .accepted .held .form .users)
 
 owed-at-requires : tie.Need-owed-at-requires
 owed-at-requires c κs =
     let s = c .before .before .before .before .before .before .before .before .before .before .before .before .before .before .before .before .before in
     let q = s .pre .0 .0 in
-    (run-day q, record { form = q .form; inside = s .pre .0 .1 }, q .low)
+    (run-day q, record { form = q .risk .opened .accepted .held .form; inside = s .pre .0 .1 }, q .risk .sums-are .low)
 
 mul-targets : tie.Need-mul-targets
 mul-targets c =
     let s = c .before .before .before .before .before .before .before .before .before .before .before .before .before .before .before .before .before .before in
-    omega (arith, s .pre .0 .1, s .pre .0 .0 .form .users)
+    omega (arith, s .pre .0 .1, s .pre .0 .0 .risk .opened .accepted .held .form .users)
 
 element-write-targets : tie.Need-element-write-targets
 element-write-targets c =
     let s = c .before .before .before .before .before .before .before .before .before .before .before .before .before .before .before .before .before .before in
-    omega (arith, s .pre .0 .1, s .pre .0 .0 .form .users)
+    omega (arith, s .pre .0 .1, s .pre .0 .0 .risk .opened .accepted .held .form .users)
 
 returns : tie.Need-returns
 returns c =

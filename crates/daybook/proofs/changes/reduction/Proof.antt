@@ -1,6 +1,6 @@
 -- `daybook::reduction` reduces after the opening questions, with the figures of its setting, and a log that is given has it noted. Assumes nothing.
 use Rattle.base.specs.Basics.{needs}
-use Rattle.call_admission.proofs.Log.{admitted-with, parties-with}
+use Rattle.call_admission.proofs.Log.{admitted-with}
 use Rattle.rights.proofs.Logged.{logged-by}
 use Rattle.rights.specs.Party.{matterBy}
 use Rattle.daybook.proofs.Logs.{reduction-logged}
@@ -8,14 +8,13 @@ use Rattle.daybook.proofs.changes.reduction.Statement.{statement}
 use Rattle.daybook.proofs.changes.reduction.Tie as tie
 
 by-log-requires : tie.Need-by-log-requires
-by-log-requires c κs = c .before .before .before .before .before .admit-with-sums .ensures .1 .1 .0
+by-log-requires c κs = λ z. c .before .before .before .before .before .admit-with-sums .ensures .1 z .parties .passes
 
 reduction-requires : tie.Need-reduction-requires
 reduction-requires c κs =
-    let a = c .before .before .before .before .before .before .before .before .before .before .before .admit-with-sums in
-    let k = a .ensures in
-    let asked = c .before .before .before .before .before .by-log .ensures in
-    (λ z. k .1 .1 .0 (asked .before z), (asked .fits, (k .1 .0, ((a .kept .1 .1 .1 .1 .1 .0, a .kept .1 .1 .1 .1 .1 .1 .0), parties-with asked (k .1 .1 .1)))))
+    let at-by-log = c .before .before .before .before .before in
+    let asked = at-by-log .by-log .ensures in
+    (λ z. at-by-log .before .before .before .before .before .before .admit-with-sums .ensures .1 (asked .before z), asked .fits)
 
 returns : tie.Need-returns
 unfolding matterBy

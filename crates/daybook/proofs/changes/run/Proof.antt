@@ -1,6 +1,6 @@
 -- `daybook::run` runs after the opening questions, with the figures of its setting, and a log that is given has its reductions noted. Assumes nothing.
 use Rattle.base.specs.Basics.{needs, not-false, not-true}
-use Rattle.call_admission.proofs.Log.{admitted-with, parties-with}
+use Rattle.call_admission.proofs.Log.{admitted-with}
 use Rattle.rights.proofs.Logged.{logged-by}
 use Rattle.rights.specs.Party.{matterBy}
 use Rattle.daybook.proofs.Logs.{called-with, called-without}
@@ -8,14 +8,12 @@ use Rattle.daybook.proofs.changes.run.Statement.{statement}
 use Rattle.daybook.proofs.changes.run.Tie as tie
 
 by-log-requires : tie.Need-by-log-requires
-by-log-requires c κs = c .before .before .before .before .before .admit-with-sums .ensures .1 .1 .0
+by-log-requires c κs = λ z. c .before .before .before .before .before .admit-with-sums .ensures .1 z .parties .passes
 
 run-requires : tie.Need-run-requires
 run-requires c κs =
-    let a = c .before .before .before .before .before .before .before .before .before .before .before .admit-with-sums in
-    let k = a .ensures in
-    let asked = c .before .before .before .before .before .by-log .ensures in
-    (λ z. k .1 .1 .0 (asked .before z), (k .1 .0, ((a .kept .1 .1 .1 .1 .1 .0, a .kept .1 .1 .1 .1 .1 .1 .0), parties-with asked (k .1 .1 .1))))
+    let at-by-log = c .before .before .before .before .before in
+    λ z. at-by-log .before .before .before .before .before .before .admit-with-sums .ensures .1 (at-by-log .by-log .ensures .before z)
 
 returns : tie.Need-returns
 unfolding matterBy
@@ -30,10 +28,12 @@ returns c =
 
 run-requires-2 : tie.Need-run-requires-2
 run-requires-2 c κs =
-    let p = c .before .before .before .before .before .before .before .before .before .before .before .before .admit-with-sums in
-    let k = p .ensures in
-    let asked = c .before .before .before .before .before .before .by-log .ensures in
-    (record { book = λ z. k .1 .1 .0 (asked .before z); log = λ z. asked .fits z (not-false _ (c .before .before .before .before .before .if1 .left)) }, (k .1 .0, ((p .kept .1 .1 .1 .1 .1 .0, p .kept .1 .1 .1 .1 .1 .1 .0), parties-with asked (k .1 .1 .1))))
+    let at-passed = c .before .before .before .before .before in
+    let at-by-log = at-passed .before in
+    let asked = at-by-log .by-log .ensures in (
+      λ z. at-by-log .before .before .before .before .before .before .admit-with-sums .ensures .1 (asked .before z),
+      λ z. asked .fits z (not-false _ (at-passed .if1 .left)),
+    )
 
 returns-2 : tie.Need-returns-2
 unfolding matterBy

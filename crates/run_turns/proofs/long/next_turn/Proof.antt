@@ -8,32 +8,32 @@ use Rattle.run_turns.proofs.long.next_turn.Statement.{statement}
 use Rattle.run_turns.proofs.long.next_turn.Tie as tie
 
 mul-from : tie.Need-mul-from
-mul-from c = let s = c .before in omega (arith, s .pre .0 .1, s .pre .0 .0 .form .users)
+mul-from c = let s = c .before in omega (arith, s .pre .0 .1, s .pre .0 .0 .risk .opened .accepted .held .form .users)
 
 element-copy-out-from : tie.Need-element-copy-out-from
-element-copy-out-from c = let s = c .before in omega (arith, s .pre .0 .1, s .pre .0 .0 .form .users)
+element-copy-out-from c = let s = c .before in omega (arith, s .pre .0 .1, s .pre .0 .0 .risk .opened .accepted .held .form .users)
 
 add-to : tie.Need-add-to
-add-to c = let s = c .before .before in omega (arith, s .pre .0 .1, s .pre .0 .0 .form .users)
+add-to c = let s = c .before .before in omega (arith, s .pre .0 .1, s .pre .0 .0 .risk .opened .accepted .held .form .users)
 
 mul-to : tie.Need-mul-to
-mul-to c = let s = c .before .before in omega (arith, s .pre .0 .1, s .pre .0 .0 .form .users)
+mul-to c = let s = c .before .before in omega (arith, s .pre .0 .1, s .pre .0 .0 .risk .opened .accepted .held .form .users)
 
 element-copy-out-to : tie.Need-element-copy-out-to
-element-copy-out-to c = let s = c .before .before in omega (arith, s .pre .0 .1, s .pre .0 .0 .form .users)
+element-copy-out-to c = let s = c .before .before in omega (arith, s .pre .0 .1, s .pre .0 .0 .risk .opened .accepted .held .form .users)
 
 mul-asked : tie.Need-mul-asked
-mul-asked c = let s = c .before .before .before in omega (arith, s .pre .0 .1, s .pre .0 .0 .form .users)
+mul-asked c = let s = c .before .before .before in omega (arith, s .pre .0 .1, s .pre .0 .0 .risk .opened .accepted .held .form .users)
 
 element-copy-out-asked : tie.Need-element-copy-out-asked
-element-copy-out-asked c = let s = c .before .before .before in omega (arith, s .pre .0 .1, s .pre .0 .0 .form .users)
+element-copy-out-asked c = let s = c .before .before .before in omega (arith, s .pre .0 .1, s .pre .0 .0 .risk .opened .accepted .held .form .users)
 
 chosen-requires : tie.Need-chosen-requires
 chosen-requires c κs =
     let s = c .before .before .before .before .before .before .before in
     let q = s .pre .0 .0 in
     let k = s .pre .0 .1 in
-    ((run-prices q, sales-in q k (reached-now (s .pre .1 .0 .0 .going)), part-rises q k, s .pre .1 .0 .1, s .pre .0 .2, omega (arith, s .pre .0 .1, s .pre .0 .0 .form .users)), s .pre .1 .1 .kept)
+    ((run-prices q, sales-in q k (reached-now (s .pre .1 .0 .0 .going)), part-rises q k, s .pre .1 .0 .1, s .pre .0 .2, omega (arith, s .pre .0 .1, s .pre .0 .0 .risk .opened .accepted .held .form .users)), s .pre .1 .1 .kept)
 
 sweep-requires : tie.Need-sweep-requires
 sweep-requires c κs =

@@ -9,19 +9,19 @@ use Rattle.run_turns.proofs.long.sweep.Statement.{statement}
 use Rattle.run_turns.proofs.long.sweep.Tie as tie
 
 mul-from : tie.Need-mul-from
-mul-from c = let s = c .before in omega (arith, s .pre .0 .1, s .pre .0 .0 .form .users)
+mul-from c = let s = c .before in omega (arith, s .pre .0 .1, s .pre .0 .0 .risk .opened .accepted .held .form .users)
 
 element-copy-out-from : tie.Need-element-copy-out-from
-element-copy-out-from c = let s = c .before in omega (arith, s .pre .0 .1, s .pre .0 .0 .form .users)
+element-copy-out-from c = let s = c .before in omega (arith, s .pre .0 .1, s .pre .0 .0 .risk .opened .accepted .held .form .users)
 
 add-to : tie.Need-add-to
-add-to c = let s = c .before .before in omega (arith, s .pre .0 .1, s .pre .0 .0 .form .users)
+add-to c = let s = c .before .before in omega (arith, s .pre .0 .1, s .pre .0 .0 .risk .opened .accepted .held .form .users)
 
 mul-to : tie.Need-mul-to
-mul-to c = let s = c .before .before in omega (arith, s .pre .0 .1, s .pre .0 .0 .form .users)
+mul-to c = let s = c .before .before in omega (arith, s .pre .0 .1, s .pre .0 .0 .risk .opened .accepted .held .form .users)
 
 element-copy-out-to : tie.Need-element-copy-out-to
-element-copy-out-to c = let s = c .before .before in omega (arith, s .pre .0 .1, s .pre .0 .0 .form .users)
+element-copy-out-to c = let s = c .before .before in omega (arith, s .pre .0 .1, s .pre .0 .0 .risk .opened .accepted .held .form .users)
 
 settle-requires : tie.Need-settle-requires
 settle-requires c κs =
@@ -35,7 +35,7 @@ look-again-requires c κs =
     let s = c .before .before .before .before .before .before .before .before .before .before .before .before in
     let q = s .pre .0 .0 in
     let g = s .pre .1 .0 .0 .going in
-    (run-day q, sweep-buyers q (s .pre .0 .1) g (s .pre .1 .1), q .low, s .pre .1 .1 .chosen .room, g .rooms .targets)
+    (run-day q, sweep-buyers q (s .pre .0 .1) g (s .pre .1 .1), q .risk .sums-are .low, s .pre .1 .1 .chosen .room, g .rooms .targets)
 
 clear-requires : tie.Need-clear-requires
 clear-requires c κs =
@@ -49,19 +49,19 @@ any-left-requires c κs =
     (part-few q (s .pre .0 .1), sweep-room q (s .pre .0 .1) (s .pre .1 .0 .0 .going) (s .pre .1 .1) (s .pre .1 .0 .1) _ (c .before .before .before .before .before .before .before .before .settle .ensures .0))
 
 element-write-eligible : tie.Need-element-write-eligible
-element-write-eligible c = let s = c .before .before .before .before .before .before .before .before .before .before .before .before .before .before .before .before .before in omega (arith, s .pre .0 .1, s .pre .0 .0 .form .users)
+element-write-eligible c = let s = c .before .before .before .before .before .before .before .before .before .before .before .before .before .before .before .before .before in omega (arith, s .pre .0 .1, s .pre .0 .0 .risk .opened .accepted .held .form .users)
 
 owed-at-requires : tie.Need-owed-at-requires
 owed-at-requires c κs =
     let s = c .before .before .before .before .before .before .before .before .before .before .before .before .before .before .before .before .before .before in
     let q = s .pre .0 .0 in
-    (run-day q, record { form = q .form; inside = s .pre .0 .1 }, q .low)
+    (run-day q, record { form = q .risk .opened .accepted .held .form; inside = s .pre .0 .1 }, q .risk .sums-are .low)
 
 mul-targets : tie.Need-mul-targets
-mul-targets c = let s = c .before .before .before .before .before .before .before .before .before .before .before .before .before .before .before .before .before .before .before in omega (arith, s .pre .0 .1, s .pre .0 .0 .form .users)
+mul-targets c = let s = c .before .before .before .before .before .before .before .before .before .before .before .before .before .before .before .before .before .before .before in omega (arith, s .pre .0 .1, s .pre .0 .0 .risk .opened .accepted .held .form .users)
 
 element-write-targets : tie.Need-element-write-targets
-element-write-targets c = let s = c .before .before .before .before .before .before .before .before .before .before .before .before .before .before .before .before .before .before .before in omega (arith, s .pre .0 .1, s .pre .0 .0 .form .users)
+element-write-targets c = let s = c .before .before .before .before .before .before .before .before .before .before .before .before .before .before .before .before .before .before .before in omega (arith, s .pre .0 .1, s .pre .0 .0 .risk .opened .accepted .held .form .users)
 
 swept-requires : tie.Need-swept-requires
 swept-requires c κs =
