@@ -49,7 +49,14 @@ fn is_due(
         let prices = book_header::read_prices(book);
         let n = book_format::user_count(book) as usize;
         let m = book_format::trade_count(book) as usize;
-        let below_notified = cut_parties::below_notified_at(book, n, m, bearing_sellers, bearing_buyers, place);
+        let below_notified = cut_parties::below_notified_at(
+            book,
+            n,
+            m,
+            bearing_sellers,
+            bearing_buyers,
+            place,
+        );
         return risk_levels::called_in(limits, prices, blocked, position, below_notified);
     }
     true

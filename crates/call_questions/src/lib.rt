@@ -52,7 +52,14 @@ pub fn shortfall_at(
     let n = book_format::user_count(book) as usize;
     let m = book_format::trade_count(book) as usize;
     run_positions::fill_positions(book, n, positions);
-    let below_notified = cut_parties::below_notified_at(book, n, m, bearing_sellers, bearing_buyers, place);
+    let below_notified = cut_parties::below_notified_at(
+        book,
+        n,
+        m,
+        bearing_sellers,
+        bearing_buyers,
+        place,
+    );
     let called = risk_user::called_at(book, positions, place, below_notified, day);
     let level = risk_user::level_at(book, sums, positions, place, day);
     let number = refused_by(risk_user::state_of(book, place, level, called, day));

@@ -85,7 +85,13 @@ fn state_at(
 }
 
 // The levels and the state of the user at a place, given the sums of each user.
-fn levels_at(book: &[u8], sums: &[u32; 768], place: usize, limits: Limits, below_notified: bool) -> UserLevels
+fn levels_at(
+    book: &[u8],
+    sums: &[u32; 768],
+    place: usize,
+    limits: Limits,
+    below_notified: bool,
+) -> UserLevels
     requires { ⌜ OpenedSums (asLimits limits) (now book) (now sums) × (place < userCount (now book)) ⌝ }
     requires { ⌜ «below_notified» ≡ cutBefore (getD (usersOf (now book)) place nobody .party .id) (tradesIn (now book)) ⌝ }
     ensures { λ r. ⌜ asRow r ≡ levelsOf (asLimits limits) (bookOf (now (book .entry))) (getD (usersOf (now (book .entry))) place nobody) ⌝ }

@@ -8,19 +8,19 @@ turn-requires : tie.Need-turn-requires
 turn-requires c κs = let s = c .before .before .before .before .before .before .before in (s .pre .0, s .pre .1)
 
 mul-from : tie.Need-mul-from
-mul-from c = let s = c .before .before .before .before .before .before .before .before in omega (arith, s .pre .0 .1, s .pre .0 .0 .form .users)
+mul-from c = let s = c .before .before .before .before .before .before .before .before in omega (arith, s .pre .0 .1, s .pre .0 .0 .risk .opened .accepted .held .form .users)
 
 element-copy-out-from : tie.Need-element-copy-out-from
-element-copy-out-from c = let s = c .before .before .before .before .before .before .before .before in omega (arith, s .pre .0 .1, s .pre .0 .0 .form .users)
+element-copy-out-from c = let s = c .before .before .before .before .before .before .before .before in omega (arith, s .pre .0 .1, s .pre .0 .0 .risk .opened .accepted .held .form .users)
 
 add-to : tie.Need-add-to
-add-to c = let s = c .before .before .before .before .before .before .before .before .before in omega (arith, s .pre .0 .1, s .pre .0 .0 .form .users)
+add-to c = let s = c .before .before .before .before .before .before .before .before .before in omega (arith, s .pre .0 .1, s .pre .0 .0 .risk .opened .accepted .held .form .users)
 
 mul-to : tie.Need-mul-to
-mul-to c = let s = c .before .before .before .before .before .before .before .before .before in omega (arith, s .pre .0 .1, s .pre .0 .0 .form .users)
+mul-to c = let s = c .before .before .before .before .before .before .before .before .before in omega (arith, s .pre .0 .1, s .pre .0 .0 .risk .opened .accepted .held .form .users)
 
 element-copy-out-to : tie.Need-element-copy-out-to
-element-copy-out-to c = let s = c .before .before .before .before .before .before .before .before .before in omega (arith, s .pre .0 .1, s .pre .0 .0 .form .users)
+element-copy-out-to c = let s = c .before .before .before .before .before .before .before .before .before in omega (arith, s .pre .0 .1, s .pre .0 .0 .risk .opened .accepted .held .form .users)
 
 clear-requires : tie.Need-clear-requires
 clear-requires c κs =

@@ -41,7 +41,7 @@ plain-turn-requires c κs =
     let at-loop = c .before .before .before .before .before .before .before .before .before in
     let p = at-loop .loop .inv .0 in
     let k = c .before .before .before .before .before .before .before .before .loop-test .taken in
-    ((q, omega (arith, k, many), p .here k), (run-ongoing many (q .sound) p, p .none-cut, p .rests-room))
+    ((q, omega (arith, k, many), p .here k), (run-ongoing many (q .risk .opened .accepted .sound) p, p .none-cut, p .rests-room))
 
 with-requires : tie.Need-with-requires Inv-loop μ-loop
 with-requires c κs =
@@ -51,7 +51,7 @@ with-requires c κs =
     let at-loop = c .before .before .before .before .before .before .before .before .before .before .before in
     let p = at-loop .loop .inv .0 in
     let k = c .before .before .before .before .before .before .before .before .before .before .loop-test .taken in
-    (run-within many (q .sound) p, turn-within many (q .sound) p k (c .before .plain-turn .ensures .0 (p .book) (p .going) .turned))
+    (run-within many (q .risk .opened .accepted .sound) p, turn-within many (q .risk .opened .accepted .sound) p k (c .before .plain-turn .ensures .0 (p .book) (p .going) .turned))
 
 next-from-requires : tie.Need-next-from-requires Inv-loop μ-loop
 next-from-requires c κs =
@@ -72,7 +72,7 @@ loop-less c =
     let at-loop = c .before .before .before .before .before .before .before .before .before .before .before .before .before .before in
     let p = at-loop .loop .inv .0 in
     let k = c .before .before .before .before .before .before .before .before .before .before .before .before .before .loop-test .taken in
-    omega (arith, run-more many (q .sound) p k, ap (λ (z : Answer). z .reductions) (c .before .before .with .ensures))
+    omega (arith, run-more many (q .risk .opened .accepted .sound) p k, ap (λ (z : Answer). z .reductions) (c .before .before .with .ensures))
 
 loop-again : tie.Need-loop-again Inv-loop μ-loop
 unfolding ofRun
@@ -86,7 +86,7 @@ loop-again c =
     let t = c .before .before .before .before .plain-turn .ensures in
     let with = c .before .before .with .ensures in
     let tested = c .before .before .before .before .before .before .before .before .before .before .before in (
-      run-turn many (q .sound) p k (t .0 (p .book) (p .going) .turned) (t .1 .0) (t .1 .1) with (c .next-from .ensures),
+      run-turn many (q .risk .opened .accepted .sound) p k (t .0 (p .book) (p .going) .turned) (t .1 .0) (t .1 .1) with (c .next-from .ensures),
       omega (arith, at-loop .loop .inv .1, ap (λ (z : Answer). z .reductions) with),
       λ h. many-turn many (tested .before .is-kept .ensures .1 (tested .if1 .left) (omega (arith, at-loop .loop .inv .1))) (at-loop .loop .inv .2 h) (t .1 .2),
     )

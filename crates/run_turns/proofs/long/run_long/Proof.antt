@@ -20,13 +20,13 @@ abbrev μ-loop : tie.MeasureT-loop
 loop-holds : tie.Need-loop-holds Inv-loop μ-loop
 loop-holds c =
     let s = c .before .before in
-    (s .pre .1 .0, keeps-start (omega (arith, s .pre .0 .1, s .pre .0 .0 .form .users)) (c .nothing .ensures), s .pre .1 .1)
+    (s .pre .1 .0, keeps-start (omega (arith, s .pre .0 .1, s .pre .0 .0 .risk .opened .accepted .held .form .users)) (c .nothing .ensures), s .pre .1 .1)
 
 mul-was : tie.Need-mul-was Inv-loop μ-loop
-mul-was c = let s = c .before .before .before .before in omega (arith, c .loop-test .taken, s .pre .0 .1, s .pre .0 .0 .form .users)
+mul-was c = let s = c .before .before .before .before in omega (arith, c .loop-test .taken, s .pre .0 .1, s .pre .0 .0 .risk .opened .accepted .held .form .users)
 
 array-copy-out-was : tie.Need-array-copy-out-was Inv-loop μ-loop
-array-copy-out-was c = let s = c .before .before .before .before in omega (arith, c .loop-test .taken, s .pre .0 .1, s .pre .0 .0 .form .users)
+array-copy-out-was c = let s = c .before .before .before .before in omega (arith, c .loop-test .taken, s .pre .0 .1, s .pre .0 .0 .risk .opened .accepted .held .form .users)
 
 next-turn-requires : tie.Need-next-turn-requires Inv-loop μ-loop
 next-turn-requires c κs =
@@ -36,13 +36,13 @@ next-turn-requires c κs =
     let at-loop = c .before .before .before .before .before .before .before .before in
     let p = at-loop .loop .inv .0 in
     let k = c .before .before .before .before .before .before .before .loop-test .taken in
-    ((q, omega (arith, k, many), p .here k), ((run-ongoing many (q .sound) p, p .none-cut, p .rests-room), at-loop .loop .inv .1 .each _ _ k (at-loop .loop .inv .2 k .1)))
+    ((q, omega (arith, k, many), p .here k), ((run-ongoing many (q .risk .opened .accepted .sound) p, p .none-cut, p .rests-room), at-loop .loop .inv .1 .each _ _ k (at-loop .loop .inv .2 k .1)))
 
 mul-kept : tie.Need-mul-kept Inv-loop μ-loop
-mul-kept c = let s = c .before .before .before .before .before .before .before .before .before .before .before .before .before in omega (arith, c .before .before .before .before .before .before .before .before .before .loop-test .taken, s .pre .0 .1, s .pre .0 .0 .form .users)
+mul-kept c = let s = c .before .before .before .before .before .before .before .before .before .before .before .before .before in omega (arith, c .before .before .before .before .before .before .before .before .before .loop-test .taken, s .pre .0 .1, s .pre .0 .0 .risk .opened .accepted .held .form .users)
 
 array-set-from-kept : tie.Need-array-set-from-kept Inv-loop μ-loop
-array-set-from-kept c = let s = c .before .before .before .before .before .before .before .before .before .before .before .before .before in omega (arith, c .before .before .before .before .before .before .before .before .before .loop-test .taken, s .pre .0 .1, s .pre .0 .0 .form .users)
+array-set-from-kept c = let s = c .before .before .before .before .before .before .before .before .before .before .before .before .before in omega (arith, c .before .before .before .before .before .before .before .before .before .loop-test .taken, s .pre .0 .1, s .pre .0 .0 .risk .opened .accepted .held .form .users)
 
 with-requires : tie.Need-with-requires Inv-loop μ-loop
 with-requires c κs =
@@ -52,7 +52,7 @@ with-requires c κs =
     let at-loop = c .before .before .before .before .before .before .before .before .before .before .before in
     let p = at-loop .loop .inv .0 in
     let k = c .before .before .before .before .before .before .before .before .before .before .loop-test .taken in
-    (run-within many (q .sound) p, turn-within many (q .sound) p k (c .before .before .next-turn .ensures .0 (p .book) (p .going) .turned))
+    (run-within many (q .risk .opened .accepted .sound) p, turn-within many (q .risk .opened .accepted .sound) p k (c .before .before .next-turn .ensures .0 (p .book) (p .going) .turned))
 
 next-from-requires : tie.Need-next-from-requires Inv-loop μ-loop
 next-from-requires c κs =
@@ -73,7 +73,7 @@ run-plain-requires c κs =
     let p = at-loop .loop .inv .0 in
     let k = c .before .before .before .before .before .before .before .before .before .before .before .before .before .before .before .before .before .before .before .loop-test .taken in
     let t = c .before .before .before .before .before .before .before .before .before .before .before .next-turn .ensures in
-    ((q, many), run-turn many (q .sound) p k (t .0 (p .book) (p .going) .turned) (t .1 .0) (t .1 .1) (c .before .before .before .before .before .before .before .before .with .ensures) (c .before .before .before .before .before .before .next-from .ensures))
+    ((q, many), run-turn many (q .risk .opened .accepted .sound) p k (t .0 (p .book) (p .going) .turned) (t .1 .0) (t .1 .1) (c .before .before .before .before .before .before .before .before .with .ensures) (c .before .before .before .before .before .before .next-from .ensures))
 
 loop-less : tie.Need-loop-less Inv-loop μ-loop
 unfolding ofRun
@@ -84,7 +84,7 @@ loop-less c =
     let at-loop = c .before .before .before .before .before .before .before .before .before .before .before .before .before .before .before .before .before .before .before .before .before .before in
     let p = at-loop .loop .inv .0 in
     let k = c .before .before .before .before .before .before .before .before .before .before .before .before .before .before .before .before .before .before .before .before .before .loop-test .taken in
-    omega (arith, run-more many (q .sound) p k, ap (λ (z : Answer). z .reductions) (c .before .before .before .before .before .before .before .before .before .before .with .ensures), c .before .run-plain .ensures .1 .0)
+    omega (arith, run-more many (q .risk .opened .accepted .sound) p k, ap (λ (z : Answer). z .reductions) (c .before .before .before .before .before .before .before .before .before .before .with .ensures), c .before .run-plain .ensures .1 .0)
 
 loop-again : tie.Need-loop-again Inv-loop μ-loop
 unfolding ofRun
@@ -106,7 +106,7 @@ loop-again c =
 returns : tie.Need-returns Inv-loop μ-loop
 returns c =
     let s = c .before .before .before .before in
-    run-end (s .pre .0 .1) (s .pre .0 .0 .sound) (c .before .loop .inv .0) (c .loop-test .left)
+    run-end (s .pre .0 .1) (s .pre .0 .0 .risk .opened .accepted .sound) (c .before .loop .inv .0) (c .loop-test .left)
 
 pub run-long-spec : {M : Type 1} → statement M
 run-long-spec =
