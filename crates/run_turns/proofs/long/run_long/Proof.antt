@@ -39,10 +39,16 @@ next-turn-requires c κs =
     ((q, omega (arith, k, many), p .here k), ((run-ongoing many (q .risk .opened .accepted .sound) p, p .none-cut, p .rests-room), at-loop .loop .inv .1 .each _ _ k (at-loop .loop .inv .2 k .1)))
 
 mul-kept : tie.Need-mul-kept Inv-loop μ-loop
-mul-kept c = let s = c .before .before .before .before .before .before .before .before .before .before .before .before .before in omega (arith, c .before .before .before .before .before .before .before .before .before .loop-test .taken, s .pre .0 .1, s .pre .0 .0 .risk .opened .accepted .held .form .users)
+mul-kept c =
+    let turn = c .before .before .before .before .before .before .before .before .before in
+    let s = turn .before .before .before .before in
+    omega (arith, turn .loop-test .taken, s .pre .0 .1, s .pre .0 .0 .risk .opened .accepted .held .form .users)
 
 array-set-from-kept : tie.Need-array-set-from-kept Inv-loop μ-loop
-array-set-from-kept c = let s = c .before .before .before .before .before .before .before .before .before .before .before .before .before in omega (arith, c .before .before .before .before .before .before .before .before .before .loop-test .taken, s .pre .0 .1, s .pre .0 .0 .risk .opened .accepted .held .form .users)
+array-set-from-kept c =
+    let turn = c .before .before .before .before .before .before .before .before .before in
+    let s = turn .before .before .before .before in
+    omega (arith, turn .loop-test .taken, s .pre .0 .1, s .pre .0 .0 .risk .opened .accepted .held .form .users)
 
 with-requires : tie.Need-with-requires Inv-loop μ-loop
 with-requires c κs =
