@@ -1,5 +1,5 @@
 -- `flag` is refused by the entry, or tells whether the user at its place is flagged. Assumes nothing.
-use Rattle.base.specs.Basics.{_∙_, ap, sym, Bool, List, [], ℕ, getD, now, needs}
+use Rattle.base.specs.Basics.{_∙_, ap, sym, Bool, List, [], ℕ, getD, now}
 use Rattle.rules.specs.Book.{nobody}
 use Rattle.rules.specs.Levels.{flagged}
 use Rattle.units.specs.Limits.{asLimits}
