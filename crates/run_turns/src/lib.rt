@@ -37,7 +37,7 @@ pub fn turn(
     starts: &[usize; 65],
     standing: &mut [u64; 256],
     areas: &[u8; 256],
-    buyers: &[u8; 256],
+    sale_buyers: &[u8; 256],
     positions: &mut [u32; 192],
     eligible: &mut [bool; 64],
     targets: &mut [u64; 64],
@@ -46,7 +46,7 @@ pub fn turn(
     place: usize,
     day: Day,
 ) -> Reduced
-    requires { ⌜ RunOf (asLimits (day .limits)) (asPrices (day .prices)) (now book) (now sums) (now starts) (now areas) (now buyers) × (place < userCount (now book)) × (0 < getD (now targets) place 0) ⌝ }
+    requires { ⌜ RunOf (asLimits (day .limits)) (asPrices (day .prices)) (now book) (now sums) (now starts) (now areas) (now «sale_buyers») × (place < userCount (now book)) × (0 < getD (now targets) place 0) ⌝ }
     requires { ⌜ Ongoing (asLimits (day .limits)) (bookOf (now book)) (now standing) (now positions) (now targets) (now eligible) × NoneCut (now cuts) × (length (now rests) ≡ 256) ⌝ }
     ensures { λ r. ⌜ ((b : Book) → Going (asLimits (day .limits)) (bookOf (now (book .entry))) b (now (standing .entry)) (now (positions .entry)) (now (targets .entry)) (now (eligible .entry))
         → Turned (asLimits (day .limits)) (bookOf (now (book .entry))) b place (now (targets .entry)) (now (standing .exit)) (now (positions .exit)) (now (targets .exit)) (now (eligible .exit))
@@ -60,7 +60,7 @@ pub fn turn(
     let tally = run_reduction::reduce(
         standing,
         areas,
-        buyers,
+        sale_buyers,
         positions,
         cuts,
         rests,
@@ -74,7 +74,7 @@ pub fn turn(
         book,
         sums,
         positions,
-        buyers,
+        sale_buyers,
         cuts,
         eligible,
         targets,
@@ -129,7 +129,7 @@ pub fn plain_turn(
     starts: &[usize; 65],
     standing: &mut [u64; 256],
     areas: &[u8; 256],
-    buyers: &[u8; 256],
+    sale_buyers: &[u8; 256],
     positions: &mut [u32; 192],
     eligible: &mut [bool; 64],
     targets: &mut [u64; 64],
@@ -138,7 +138,7 @@ pub fn plain_turn(
     place: usize,
     day: Day,
 ) -> Reduced
-    requires { ⌜ RunOf (asLimits (day .limits)) (asPrices (day .prices)) (now book) (now sums) (now starts) (now areas) (now buyers) × (place < userCount (now book)) × (0 < getD (now targets) place 0) ⌝ }
+    requires { ⌜ RunOf (asLimits (day .limits)) (asPrices (day .prices)) (now book) (now sums) (now starts) (now areas) (now «sale_buyers») × (place < userCount (now book)) × (0 < getD (now targets) place 0) ⌝ }
     requires { ⌜ Ongoing (asLimits (day .limits)) (bookOf (now book)) (now standing) (now positions) (now targets) (now eligible) × NoneCut (now cuts) × (length (now rests) ≡ 256) ⌝ }
     ensures { λ r. ⌜ ((b : Book) → Going (asLimits (day .limits)) (bookOf (now (book .entry))) b (now (standing .entry)) (now (positions .entry)) (now (targets .entry)) (now (eligible .entry))
         → TurnedSome (asLimits (day .limits)) (bookOf (now (book .entry))) b place (now (targets .entry)) (now (standing .exit)) (now (positions .exit)) (now (targets .exit)) (now (eligible .exit)) (r .tally) (r .least)) ⌝ }
@@ -151,7 +151,7 @@ pub fn plain_turn(
         starts,
         standing,
         areas,
-        buyers,
+        sale_buyers,
         positions,
         eligible,
         targets,
@@ -202,7 +202,7 @@ pub fn run_plain(
     starts: &[usize; 65],
     standing: &mut [u64; 256],
     areas: &[u8; 256],
-    buyers: &[u8; 256],
+    sale_buyers: &[u8; 256],
     positions: &mut [u32; 192],
     eligible: &mut [bool; 64],
     targets: &mut [u64; 64],
@@ -212,7 +212,7 @@ pub fn run_plain(
     so_far: Totals,
     due: usize,
 ) -> Stage
-    requires { ⌜ RunOf (asLimits (day .limits)) (asPrices (day .prices)) (now book) (now sums) (now starts) (now areas) (now buyers) × (n ≡ userCount (now book)) ⌝ }
+    requires { ⌜ RunOf (asLimits (day .limits)) (asPrices (day .prices)) (now book) (now sums) (now starts) (now areas) (now «sale_buyers») × (n ≡ userCount (now book)) ⌝ }
     requires { ⌜ RunTo (asLimits (day .limits)) (now book) n (now standing) (now positions) (now targets) (now eligible) (now cuts) (now rests) «so_far» due ⌝ }
     ensures { λ r. ⌜ RunTo (asLimits (day .limits)) (now (book .entry)) n (now (standing .exit)) (now (positions .exit)) (now (targets .exit)) (now (eligible .exit)) (now (cuts .exit)) (now (rests .exit)) (r .totals) (r .place) ⌝ }
     ensures { λ r. ⌜ («so_far» .reductions ≤ r .totals .reductions) × (64 ≤ «so_far» .reductions → ManyStand n (now (starts .entry)) (now (standing .entry)) (now (standing .exit)))
@@ -233,7 +233,7 @@ pub fn run_plain(
             starts,
             standing,
             areas,
-            buyers,
+            sale_buyers,
             positions,
             eligible,
             targets,
@@ -261,13 +261,13 @@ pub fn run_on(
     starts: &[usize; 65],
     standing: &mut [u64; 256],
     areas: &[u8; 256],
-    buyers: &[u8; 256],
+    sale_buyers: &[u8; 256],
     positions: &mut [u32; 192],
     eligible: &mut [bool; 64],
     targets: &mut [u64; 64],
     day: Day,
 ) -> Totals
-    requires { ⌜ RunOf (asLimits (day .limits)) (asPrices (day .prices)) (now book) (now sums) (now starts) (now areas) (now buyers) × (n ≡ userCount (now book)) ⌝ }
+    requires { ⌜ RunOf (asLimits (day .limits)) (asPrices (day .prices)) (now book) (now sums) (now starts) (now areas) (now «sale_buyers») × (n ≡ userCount (now book)) ⌝ }
     requires { ⌜ Going (asLimits (day .limits)) (bookOf (now book)) (bookOf (now book)) (now standing) (now positions) (now targets) (now eligible) ⌝ }
     ensures { λ r. ⌜ Ran (wholeRun (asLimits (day .limits)) (bookOf (now (book .entry)))) (bookOf (now (book .entry))) (now (standing .exit)) r ⌝ }
 {
@@ -282,7 +282,7 @@ pub fn run_on(
         starts,
         standing,
         areas,
-        buyers,
+        sale_buyers,
         positions,
         eligible,
         targets,
@@ -304,7 +304,7 @@ pub fn run_on(
         starts,
         standing,
         areas,
-        buyers,
+        sale_buyers,
         positions,
         eligible,
         targets,

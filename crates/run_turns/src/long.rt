@@ -59,7 +59,7 @@ fn sweep(
     starts: &[usize; 65],
     standing: &mut [u64; 256],
     areas: &[u8; 256],
-    buyers: &[u8; 256],
+    sale_buyers: &[u8; 256],
     positions: &mut [u32; 192],
     eligible: &mut [bool; 64],
     targets: &mut [u64; 64],
@@ -68,7 +68,7 @@ fn sweep(
     day: Day,
     choice: Choice,
 ) -> LongTurn
-    requires { ⌜ RunOf (asLimits (day .limits)) (asPrices (day .prices)) (now book) (now sums) (now starts) (now areas) (now buyers) × (place < userCount (now book)) × (0 < getD (now targets) place 0) ⌝ }
+    requires { ⌜ RunOf (asLimits (day .limits)) (asPrices (day .prices)) (now book) (now sums) (now starts) (now areas) (now «sale_buyers») × (place < userCount (now book)) × (0 < getD (now targets) place 0) ⌝ }
     requires { ⌜ Ongoing (asLimits (day .limits)) (bookOf (now book)) (now standing) (now positions) (now targets) (now eligible) × (choice .fits ≡ true) ⌝ }
     requires { ⌜ Sweepable (asPrices (day .prices)) (getD (now targets) place 0) (now standing) (now areas) (now positions) place (getD (now starts) place 0) (getD (now starts) (place + 1) 0) (now cuts) choice ⌝ }
     ensures { λ r. ⌜ ((b : Book) → Going (asLimits (day .limits)) (bookOf (now (book .entry))) b (now (standing .entry)) (now (positions .entry)) (now (targets .entry)) (now (eligible .entry))
@@ -85,7 +85,7 @@ fn sweep(
     let tally = run_reduction::settle(
         standing,
         areas,
-        buyers,
+        sale_buyers,
         cuts,
         positions,
         place,
@@ -97,7 +97,7 @@ fn sweep(
         book,
         sums,
         positions,
-        buyers,
+        sale_buyers,
         cuts,
         eligible,
         targets,
@@ -125,7 +125,7 @@ fn next_turn(
     starts: &[usize; 65],
     standing: &mut [u64; 256],
     areas: &[u8; 256],
-    buyers: &[u8; 256],
+    sale_buyers: &[u8; 256],
     positions: &mut [u32; 192],
     eligible: &mut [bool; 64],
     targets: &mut [u64; 64],
@@ -135,7 +135,7 @@ fn next_turn(
     day: Day,
     kept: Kept,
 ) -> LongTurn
-    requires { ⌜ RunOf (asLimits (day .limits)) (asPrices (day .prices)) (now book) (now sums) (now starts) (now areas) (now buyers) × (place < userCount (now book)) × (0 < getD (now targets) place 0) ⌝ }
+    requires { ⌜ RunOf (asLimits (day .limits)) (asPrices (day .prices)) (now book) (now sums) (now starts) (now areas) (now «sale_buyers») × (place < userCount (now book)) × (0 < getD (now targets) place 0) ⌝ }
     requires { ⌜ Ongoing (asLimits (day .limits)) (bookOf (now book)) (now standing) (now positions) (now targets) (now eligible) × NoneCut (now cuts) × (length (now rests) ≡ 256) ⌝ }
     requires { ⌜ Keeps (asPrices (day .prices)) (now starts) (now standing) (now areas) place kept ⌝ }
     ensures { λ r. ⌜ ((b : Book) → Going (asLimits (day .limits)) (bookOf (now (book .entry))) b (now (standing .entry)) (now (positions .entry)) (now (targets .entry)) (now (eligible .entry))
@@ -165,7 +165,7 @@ fn next_turn(
             starts,
             standing,
             areas,
-            buyers,
+            sale_buyers,
             positions,
             eligible,
             targets,
@@ -183,7 +183,7 @@ fn next_turn(
         starts,
         standing,
         areas,
-        buyers,
+        sale_buyers,
         positions,
         eligible,
         targets,
@@ -210,7 +210,7 @@ pub fn run_long(
     starts: &[usize; 65],
     standing: &mut [u64; 256],
     areas: &[u8; 256],
-    buyers: &[u8; 256],
+    sale_buyers: &[u8; 256],
     positions: &mut [u32; 192],
     eligible: &mut [bool; 64],
     targets: &mut [u64; 64],
@@ -220,7 +220,7 @@ pub fn run_long(
     so_far: Totals,
     due: usize,
 ) -> Totals
-    requires { ⌜ RunOf (asLimits (day .limits)) (asPrices (day .prices)) (now book) (now sums) (now starts) (now areas) (now buyers) × (n ≡ userCount (now book)) ⌝ }
+    requires { ⌜ RunOf (asLimits (day .limits)) (asPrices (day .prices)) (now book) (now sums) (now starts) (now areas) (now «sale_buyers») × (n ≡ userCount (now book)) ⌝ }
     requires { ⌜ RunTo (asLimits (day .limits)) (now book) n (now standing) (now positions) (now targets) (now eligible) (now cuts) (now rests) «so_far» due
         × (due < n → (64 ≤ «so_far» .reductions) × (getD (now starts) due 0 + 8 < getD (now starts) (due + 1) 0)) ⌝ }
     ensures { λ r. ⌜ Ran (wholeRun (asLimits (day .limits)) (bookOf (now (book .entry)))) (bookOf (now (book .entry))) (now (standing .exit)) r ⌝ }
@@ -237,7 +237,7 @@ pub fn run_long(
             starts,
             standing,
             areas,
-            buyers,
+            sale_buyers,
             positions,
             eligible,
             targets,
@@ -260,7 +260,7 @@ pub fn run_long(
             starts,
             standing,
             areas,
-            buyers,
+            sale_buyers,
             positions,
             eligible,
             targets,

@@ -10,12 +10,12 @@ use Rattle.run_turns.proofs.run_plain.Statement.{statement}
 use Rattle.run_turns.proofs.run_plain.Tie as tie
 
 abbrev Inv-loop : tie.InvT-loop
-Inv-loop book n sums starts standing₀ areas buyers positions₀ eligible₀ targets₀ cuts₀ rests₀ day due totals₀ place₀ standing positions eligible targets cuts rests totals place =
+Inv-loop book n sums starts standing₀ areas sale-buyers positions₀ eligible₀ targets₀ cuts₀ rests₀ day due totals₀ place₀ standing positions eligible targets cuts rests totals place =
     RunTo (asLimits (day .limits)) book n standing positions targets eligible cuts rests totals place × (totals₀ .reductions ≤ totals .reductions)
     × (64 ≤ totals₀ .reductions → ManyStand n starts standing₀ standing)
 
 abbrev μ-loop : tie.MeasureT-loop
-μ-loop book n sums starts standing₀ areas buyers positions₀ eligible₀ targets₀ cuts₀ rests₀ day due totals₀ place₀ standing positions eligible targets cuts rests totals place = 25600000 - totals .reductions
+μ-loop book n sums starts standing₀ areas sale-buyers positions₀ eligible₀ targets₀ cuts₀ rests₀ day due totals₀ place₀ standing positions eligible targets cuts rests totals place = 25600000 - totals .reductions
 
 loop-holds : tie.Need-loop-holds Inv-loop μ-loop
 loop-holds c = (c .before .pre .1, omega arith, λ h. many-start _)
@@ -26,7 +26,7 @@ is-kept-requires c κs =
     let q = s .pre .0 .0 in
     let many = s .pre .0 .1 in
     let k = c .loop-test .taken in
-    (omega (arith, k, many, q .form .users), part-rises q (omega (arith, k, many)))
+    (omega (arith, k, many, q .risk .opened .accepted .held .form .users), part-rises q (omega (arith, k, many)))
 
 returns : tie.Need-returns Inv-loop μ-loop
 returns c =
@@ -61,7 +61,7 @@ next-from-requires c κs =
     let at-loop = c .before .before .before .before .before .before .before .before .before .before .before .before .before in
     let p = at-loop .loop .inv .0 in
     let k = c .before .before .before .before .before .before .before .before .before .before .before .before .loop-test .taken in
-    (omega (arith, k, c .before .before .before .plain-turn .ensures .0 (p .book) (p .going) .turned .least-most), omega (arith, many, q .form .users))
+    (omega (arith, k, c .before .before .before .plain-turn .ensures .0 (p .book) (p .going) .turned .least-most), omega (arith, many, q .risk .opened .accepted .held .form .users))
 
 loop-less : tie.Need-loop-less Inv-loop μ-loop
 unfolding ofRun

@@ -10,12 +10,12 @@ use Rattle.run_turns.proofs.long.run_long.Statement.{statement}
 use Rattle.run_turns.proofs.long.run_long.Tie as tie
 
 abbrev Inv-loop : tie.InvT-loop
-Inv-loop book n sums starts standing₀ areas buyers positions₀ eligible₀ targets₀ cuts₀ rests₀ day due kept₀ totals₀ place₀ standing positions eligible targets cuts rests kept totals place =
+Inv-loop book n sums starts standing₀ areas sale-buyers positions₀ eligible₀ targets₀ cuts₀ rests₀ day due kept₀ totals₀ place₀ standing positions eligible targets cuts rests kept totals place =
     RunTo (asLimits (day .limits)) book n standing positions targets eligible cuts rests totals place × KeepsAll (asPrices (day .prices)) n starts standing areas kept
     × (place < n → (64 ≤ totals .reductions) × (getD starts place 0 + 8 < getD starts (place + 1) 0))
 
 abbrev μ-loop : tie.MeasureT-loop
-μ-loop book n sums starts standing₀ areas buyers positions₀ eligible₀ targets₀ cuts₀ rests₀ day due kept₀ totals₀ place₀ standing positions eligible targets cuts rests kept totals place = 25600000 - totals .reductions
+μ-loop book n sums starts standing₀ areas sale-buyers positions₀ eligible₀ targets₀ cuts₀ rests₀ day due kept₀ totals₀ place₀ standing positions eligible targets cuts rests kept totals place = 25600000 - totals .reductions
 
 loop-holds : tie.Need-loop-holds Inv-loop μ-loop
 loop-holds c =
@@ -68,7 +68,7 @@ next-from-requires c κs =
     let at-loop = c .before .before .before .before .before .before .before .before .before .before .before .before .before in
     let p = at-loop .loop .inv .0 in
     let k = c .before .before .before .before .before .before .before .before .before .before .before .before .loop-test .taken in
-    (omega (arith, k, c .before .before .before .before .next-turn .ensures .0 (p .book) (p .going) .turned .least-most), omega (arith, many, q .form .users))
+    (omega (arith, k, c .before .before .before .before .next-turn .ensures .0 (p .book) (p .going) .turned .least-most), omega (arith, many, q .risk .opened .accepted .held .form .users))
 
 run-plain-requires : tie.Need-run-plain-requires Inv-loop μ-loop
 run-plain-requires c κs =
@@ -105,7 +105,7 @@ loop-again c =
     let r = c .before .run-plain .ensures in
     let more = ap (λ (z : Answer). z .reductions) (c .before .before .before .before .before .before .before .before .before .before .with .ensures) in (
       r .0,
-      keeps-stand (keeps-turn (at-loop .loop .inv .1) many (omega (arith, k, many, q .form .users)) (t .1 .2) (t .1 .3)) (r .1 .1 (omega (arith, more, at-loop .loop .inv .2 k .0))),
+      keeps-stand (keeps-turn (at-loop .loop .inv .1) many (omega (arith, k, many, q .risk .opened .accepted .held .form .users)) (t .1 .2) (t .1 .3)) (r .1 .1 (omega (arith, more, at-loop .loop .inv .2 k .0))),
       r .1 .2,
     )
 
