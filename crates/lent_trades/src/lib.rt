@@ -43,7 +43,7 @@ pub fn cut_all(trades: [Trade; 256], cuts: &[u64]) -> [Trade; 256]
     lowered
 }
 
-// The same of a short array. Its proof differs from that of `cut_all` in the number alone.
+// The same of a short array. One walk over any length proves both.
 pub fn cut_few(trades: [Trade; 32], cuts: &[u64]) -> [Trade; 32]
     ensures { λ r. ⌜ LoweredBy (now (cuts .entry)) trades r ⌝ }
 {

@@ -2,7 +2,6 @@
 pub mod Places
 pub mod Borne
 -- Laws of trades as they are borne, listed and counted one after the other.
-pub mod Listed
 pub mod Trades
 -- Laws of amounts summed over those whose risk a user bears.
 pub mod Rows

@@ -1,6 +1,6 @@
 -- Who bears whose risk, read of the records of a book: the ids, the manager in an area, the place of either. Assumes nothing.
 use Rattle.base.specs.Basics.{_≡_, refl, sym, ap, subst, _∙_, Bool, true, List, ℕ, zero, suc, _+_, _*_, _-_, _≤_, _<_, arith, T, eqb→eq, length, take}
-use Rattle.base.specs.Basics.{drop, getD, set, replicate, length-set, length-replicate, drop-drop, drop-set-lt, getD-set-other, getD-set-same, eq-eqb}
+use Rattle.base.specs.Basics.{drop, getD, set, replicate, length-set, length-replicate, getD-set-other, getD-set-same, eq-eqb}
 use Rattle.base.specs.Basics.{ne-eqb}
 use Rattle.base.proofs.Linear.{by-order}
 use Rattle.book_format.proofs.Held.{accepted-ids}
@@ -14,23 +14,15 @@ use Rattle.book_parties.proofs.Rising.{rising-ids}
 use Rattle.book_parties.specs.Ids.{idAt, idsOf, placeIn}
 use Rattle.book_records.specs.User.{managersAt, userOf}
 use Rattle.fields.proofs.Field.{field-part}
-use Rattle.fields.proofs.Sets.{drop-replicate}
 use Rattle.fields.specs.Field.{field}
 use Rattle.rules.specs.Areas.{managersIn}
 use Rattle.rules.specs.Bearers.{bearer}
 use Rattle.rules.specs.Book.{User, managerIn, nobody}
-use Rattle.risk_bearers.proofs.Listed.{Listed, listed-end, listed-start, listed-turn}
+use Rattle.book_questions.proofs.Loops.{Listed, listed-end, listed-start, listed-turn, rest-set}
 use Rattle.risk_bearers.proofs.Places.{place-is}
 use Rattle.risk_bearers.specs.Bearers.{BearersOf, IdsOf}
 
 -- ---- the ids
-
--- the numbers past one that is stored
-rest-set : (room i : ℕ) (pad n : ℕ) (ns : List ℕ) → drop i ns ≡ replicate (room - i) pad → drop (i + 1) (set ns i n) ≡ replicate (room - (i + 1)) pad
-rest-set room i pad n ns e =
-    let q : drop 1 (drop i ns) ≡ drop (i + 1) ns = drop-drop 1 i ns in
-    let k : room - i - 1 ≡ room - (i + 1) = omega arith in
-    drop-set-lt (i + 1) ns i n (omega arith) ∙ sym q ∙ ap (drop 1) e ∙ drop-replicate 1 (room - i) pad ∙ ap (λ (m : ℕ). replicate m pad) k
 
 -- the first i are listed, and the rest is padding
 pub record IdsTo (us : List User) (ids : List ℕ) (i : ℕ) : Type 0 where

@@ -10,7 +10,7 @@ use Rattle.book_format.specs.Book.{tradeCount, tradesOf, userCount, usersOf}
 use Rattle.book_parties.proofs.Known.{placeIn-among}
 use Rattle.book_parties.proofs.Rising.{rising-ids}
 use Rattle.book_parties.specs.Ids.{BookIn, among, idsOf, placeIn}
-use Rattle.risk_bearers.proofs.Listed.{Listed, listed-end, listed-start, listed-turn}
+use Rattle.book_questions.proofs.Loops.{Listed, listed-end, listed-start, listed-turn}
 use Rattle.book_sums.proofs.Twelve.{addable-bought, addable-sold, twelve-all, twelve-next, twelve-none, twelve-of}
 use Rattle.book_sums.specs.Sums.{partiesAmong, placesOf}
 use Rattle.book_sums.specs.Twelve.{Addable, Low, Twelve, added}

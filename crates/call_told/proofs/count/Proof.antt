@@ -6,9 +6,6 @@ use Rattle.call_told.proofs.Asked.{found-above, told-found, told-refuse
 use Rattle.call_told.proofs.count.Statement.{statement}
 use Rattle.call_told.proofs.count.Tie as tie
 
-seek-shipper-requires : tie.Need-seek-shipper-requires
-seek-shipper-requires c κs = λ z. c .before .pre z .passes
-
 returns : tie.Need-returns
 unfolding countTold toldNumber idOf
 returns c =
@@ -32,4 +29,4 @@ returns-2 c =
     ∙ told-found (a .opened) (now (a .book)) (countOf (a .id)) (k .seek-shipper .ensures) limits (e .if1 .left)
 
 pub count-spec : {M : Type 1} → statement M
-count-spec = tie.close (tie.spec seek-shipper-requires returns count-seen-requires returns-2)
+count-spec = tie.close (tie.spec (λ c κs z. c .before .pre z .passes) returns count-seen-requires returns-2)

@@ -15,21 +15,12 @@ Inv-loop book sellers buyers id n m at i₀ count₀ i count = Counted book id i
 abbrev μ-loop : tie.MeasureT-loop
 μ-loop book sellers buyers id n m at i₀ count₀ i count = m - i
 
-loop-holds : tie.Need-loop-holds Inv-loop μ-loop
-loop-holds c = record { few = omega arith; whole = omega arith }
-
 abbrev start : tie.After-trades-offset Inv-loop μ-loop → tie.Start Inv-loop μ-loop
 start c = c .before .before .before .before
 
 -- the trade that is looked at is one of the book
 inside : (c : tie.In-loop Inv-loop μ-loop) → c .before .loop .i < tradeCount (now (start (c .before .before) .args .book))
 inside c = omega (arith, c .loop-test .taken, c .before .before .before .trade-count .ensures)
-
-user-count-requires : tie.Need-user-count-requires Inv-loop μ-loop
-user-count-requires c κs = omega (arith, c .before .pre .0 .accepted .held .form .head)
-
-trade-count-requires : tie.Need-trade-count-requires Inv-loop μ-loop
-trade-count-requires c κs = omega (arith, c .before .before .pre .0 .accepted .held .form .head)
 
 trades-offset-requires : tie.Need-trades-offset-requires Inv-loop μ-loop
 trades-offset-requires c κs = (c .before .before .before .pre .0 .accepted .held .form, c .before .user-count .ensures)
@@ -54,9 +45,6 @@ small c =
     let b = start (l .before .before) .pre .0 in
     (at-most-one b _ (inside l) refl refl (c .count-one .ensures), l .before .loop .inv .few, omega (arith, inside l, b .accepted .held .form .trades))
 
-add-count : tie.Need-add-count Inv-loop μ-loop
-add-count c = let k = small c in omega (arith, k .0, k .1, k .2)
-
 loop-again : tie.Need-loop-again Inv-loop μ-loop
 loop-again c =
     let l = c .before .before .before in
@@ -76,16 +64,16 @@ count-seen-spec =
     (tie.spec
     Inv-loop
     μ-loop
-    user-count-requires
+    (λ c κs. omega (arith, c .before .pre .0 .accepted .held .form .head))
     (λ c. search needs)
-    trade-count-requires
+    (λ c κs. omega (arith, c .before .before .pre .0 .accepted .held .form .head))
     (λ c. search needs)
     trades-offset-requires
-    loop-holds
+    (λ c. record { few = omega arith; whole = omega arith })
     (λ c. search needs)
     (λ c. search needs)
     count-one-requires
-    add-count
+    (λ c. let k = small c in omega (arith, k .0, k .1, k .2))
     (λ c. search needs)
     (λ c. search needs)
     loop-again

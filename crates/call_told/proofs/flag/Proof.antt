@@ -21,9 +21,6 @@ bytes c = now (start c .args .book)
 found : (c : tie.Else1) → Found (bytes (c .before)) (start (c .before) .args .id) (c .before .seek-shipper .result .place)
 found c = c .before .seek-shipper .ensures .found (c .if1 .left)
 
-seek-shipper-requires : tie.Need-seek-shipper-requires
-seek-shipper-requires c κs = λ z. c .before .pre z .passes
-
 returns : tie.Need-returns
 unfolding flagTold toldNumber idOf
 returns c =
@@ -47,4 +44,4 @@ returns-2 c =
     ∙ told-found (a .opened) (bytes k) (flagOf (a .id)) (k .seek-shipper .ensures) l (n .if1 .left)
 
 pub flag-spec : {M : Type 1} → statement M
-flag-spec = tie.close (tie.spec seek-shipper-requires returns is-flagged-requires returns-2)
+flag-spec = tie.close (tie.spec (λ c κs z. c .before .pre z .passes) returns is-flagged-requires returns-2)

@@ -15,21 +15,12 @@ Inv-loop book sellers buyers id ordinal n m at i₀ left₀ i left = Looked book
 abbrev μ-loop : tie.MeasureT-loop
 μ-loop book sellers buyers id ordinal n m at i₀ left₀ i left = m - i
 
-loop-holds : tie.Need-loop-holds Inv-loop μ-loop
-loop-holds c = record { most = omega arith; place = omega arith }
-
 abbrev start : tie.After-trades-offset Inv-loop μ-loop → tie.Start Inv-loop μ-loop
 start c = c .before .before .before .before
 
 -- the trade that is looked at is one of the book
 inside : (c : tie.In-loop Inv-loop μ-loop) → c .before .loop .i < tradeCount (now (start (c .before .before) .args .book))
 inside c = omega (arith, c .loop-test .taken, c .before .before .before .trade-count .ensures)
-
-user-count-requires : tie.Need-user-count-requires Inv-loop μ-loop
-user-count-requires c κs = omega (arith, c .before .pre .0 .accepted .held .form .head)
-
-trade-count-requires : tie.Need-trade-count-requires Inv-loop μ-loop
-trade-count-requires c κs = omega (arith, c .before .before .pre .0 .accepted .held .form .head)
 
 trades-offset-requires : tie.Need-trades-offset-requires Inv-loop μ-loop
 trades-offset-requires c κs = (c .before .before .before .pre .0 .accepted .held .form, c .before .user-count .ensures)
@@ -74,12 +65,12 @@ place-seen-spec =
     (tie.spec
     Inv-loop
     μ-loop
-    user-count-requires
+    (λ c κs. omega (arith, c .before .pre .0 .accepted .held .form .head))
     (λ c. search needs)
-    trade-count-requires
+    (λ c κs. omega (arith, c .before .before .pre .0 .accepted .held .form .head))
     (λ c. search needs)
     trades-offset-requires
-    loop-holds
+    (λ c. record { most = omega arith; place = omega arith })
     (λ c. search needs)
     (λ c. search needs)
     count-one-requires

@@ -24,9 +24,6 @@ started c = c .before .seek .ensures .start (c .if1 .left)
 returns : tie.Need-returns
 returns c = seek-refused (bytes (c .before)) (asked (c .before)) (c .before .seek .ensures) (c .if1 .taken)
 
-user-at-requires : tie.Need-user-at-requires
-user-at-requires c κs = found-user (found c)
-
 -- the role that was read is that of the user of the id
 role : (u : tie.After-user-at) → let e = u .before .before in u .user-at .result .role ≡ find (bookOf (bytes e) .users) (asked e) .party .role
 role u =
@@ -46,4 +43,4 @@ returns-3 c =
     seek-found (bytes (n .before)) (asked (n .before)) (started n) (found n) (sym (role u) ∙ c .if2 .left)
 
 pub seek-shipper-spec : {M : Type 1} → statement M
-seek-shipper-spec = tie.close (tie.spec (λ c κs. c .before .pre) returns user-at-requires returns-2 returns-3)
+seek-shipper-spec = tie.close (tie.spec (λ c κs. c .before .pre) returns (λ c κs. found-user (found c)) returns-2 returns-3)

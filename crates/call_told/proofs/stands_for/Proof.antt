@@ -21,9 +21,6 @@ lies c =
     let managed = sym (m .has-managers .ensures) ∙ not-false _ (c .if2 .left) in
     (omega (arith, record-lies (o .pre .0), u .user-offset .ensures .0, user-managed (versionOf (now (o .args .book))) (ap managersIn (sym (v .version .ensures)) ∙ managed)), omega (arith, o .pre .1))
 
-get-u32-requires : tie.Need-get-u32-requires
-get-u32-requires c κs = omega (arith, c .user-offset .ensures .1)
-
 returns : tie.Need-returns
 returns c =
     let u = c .before .before in
@@ -44,9 +41,6 @@ returns-2 c =
     let o = u .before .before in
     stands-plain (o .pre .0) (o .args .id) (o .args .area) (u .user-offset .ensures .0) (other (v .before)) (ap managersIn (sym (v .version .ensures)) ∙ sym (m .has-managers .ensures) ∙ not-true _ (c .if2 .taken))
 
-get-u32-requires-2 : tie.Need-get-u32-requires-2
-get-u32-requires-2 c κs = let k = lies c in omega (arith, k .0, k .1)
-
 returns-3 : tie.Need-returns-3
 returns-3 c =
     let n = c .before in
@@ -62,7 +56,7 @@ stands-for-spec =
     tie.close
     (tie.spec
     (λ c κs. c .before .pre .0)
-    get-u32-requires
+    (λ c κs. omega (arith, c .user-offset .ensures .1))
     returns
     version-requires
     (λ c κs. search needs)
@@ -70,5 +64,5 @@ stands-for-spec =
     (λ c. let k = lies c in omega (arith, k .0, k .1))
     (λ c. let k = lies c in omega (arith, k .0, k .1))
     (λ c. let k = lies c in omega (arith, k .0, k .1))
-    get-u32-requires-2
+    (λ c κs. let k = lies c in omega (arith, k .0, k .1))
     returns-3)

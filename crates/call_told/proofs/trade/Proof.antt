@@ -22,17 +22,11 @@ opened c = entered c .seek-shipper .ensures .start (c .if1 .left)
 form : (c : tie.Else1) → Formed (bytes (entered c))
 form c = start (entered c) .pre (opened c) .book .accepted .held .form
 
-seek-shipper-requires : tie.Need-seek-shipper-requires
-seek-shipper-requires c κs = λ z. c .before .pre z .passes
-
 returns : tie.Need-returns
 returns c =
     let e = c .before .before .before in
     let a = start e .args in
     part-refused (a .opened) (bytes e) (a .id) (a .ordinal) (e .seek-shipper .ensures) (c .before .if1 .taken) refl refl
-
-trade-count-requires : tie.Need-trade-count-requires
-trade-count-requires c κs = omega (arith, form c .head)
 
 place-seen-requires : tie.Need-place-seen-requires
 place-seen-requires c κs =
@@ -61,9 +55,6 @@ returns-2 c =
 inside : (c : tie.Else2) → let p = c .before in p .place-seen .result < tradeCount (bytes (entered (p .before .before)))
 inside c = let p = c .before in omega (arith, c .if2 .left, p .before .trade-count .ensures)
 
-trade-offset-requires : tie.Need-trade-offset-requires
-trade-offset-requires c κs = (form (c .before .before .before), inside c)
-
 returns-3 : tie.Need-returns-3
 returns-3 c =
     let o = c .before in
@@ -91,15 +82,15 @@ pub trade-spec : {M : Type 1} → statement M
 trade-spec =
     tie.close
     (tie.spec
-    seek-shipper-requires
+    (λ c κs z. c .before .pre z .passes)
     (λ c. search needs)
     returns
-    trade-count-requires
+    (λ c κs. omega (arith, form c .head))
     (λ c. search needs)
     place-seen-requires
     (λ c. search needs)
     returns-2
-    trade-offset-requires
+    (λ c κs. (form (c .before .before .before), inside c))
     (λ c. search needs)
     (λ c. search needs)
     (λ c. search needs)

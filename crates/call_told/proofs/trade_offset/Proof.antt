@@ -3,12 +3,6 @@ use Rattle.base.specs.Basics.{_+_, _*_, _≤_, _<_, arith, length, now, needs}
 use Rattle.call_told.proofs.trade_offset.Statement.{statement}
 use Rattle.call_told.proofs.trade_offset.Tie as tie
 
-user-count-requires : tie.Need-user-count-requires
-user-count-requires c κs = omega (arith, c .before .pre .0 .head)
-
-trades-offset-requires : tie.Need-trades-offset-requires
-trades-offset-requires c κs = (c .before .before .pre .0, c .user-count .ensures)
-
 lies : (c : tie.After-trades-offset) → let o = c .before .before .before in
     (c .trades-offset .result + 20 * o .args .place + 20 ≤ length (now (o .args .book))) × (o .args .place < 256)
 lies c =
@@ -21,4 +15,7 @@ returns c =
     (omega (arith, c .trades-offset .ensures), lies c .0)
 
 pub trade-offset-spec : {M : Type 1} → statement M
-trade-offset-spec = tie.close (tie.spec user-count-requires (λ c. search needs) trades-offset-requires (λ c. omega (arith, lies c)) (λ c. omega (arith, lies c, c .before .before .before .good)) returns)
+trade-offset-spec =
+    tie.close
+    (tie.spec (λ c κs. omega (arith, c .before .pre .0 .head)) (λ c. search needs) (λ c κs. (c .before .before .pre .0, c .user-count .ensures))
+    (λ c. omega (arith, lies c)) (λ c. omega (arith, lies c, c .before .before .before .good)) returns)

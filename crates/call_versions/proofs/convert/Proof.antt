@@ -31,9 +31,6 @@ room c =
     let start = c .before .before .before .before .before .before .before in
     start .pre .1 ∙ length-by (start .args .version) (userCount (now (start .args .s))) (tradeCount (now (start .args .s))) ∙ rw (c .before .header-size .ensures .0, c .user-size .ensures .0, c .before .before .before .before .user-count .ensures)
 
-fit-records-requires : tie.Need-fit-records-requires
-fit-records-requires c κs = (omega (arith, whole (c .before)), omega (arith, room (c .before)))
-
 put-u16-requires : tie.Need-put-u16-requires
 put-u16-requires c κs =
     let z = c .before .before .before .before .before in
@@ -91,7 +88,7 @@ convert-spec =
     users-size-requires
     (λ c κs. search needs)
     (λ c κs. search needs)
-    fit-records-requires
+    (λ c κs. (omega (arith, whole (c .before)), omega (arith, room (c .before))))
     put-u16-requires
     fit-records-requires-2
     mul-copy-rest

@@ -10,30 +10,9 @@ Inv-loop s at n i₀ a₀ i a = Walk s at n i a
 abbrev μ-loop : tie.MeasureT-loop
 μ-loop s at n i₀ a₀ i a = n - i
 
-loop-holds : tie.Need-loop-holds Inv-loop μ-loop
-loop-holds c = walk-start
-
 -- the next record lies in the bytes
 lies : (c : tie.In-loop Inv-loop μ-loop) → c .before .loop .a + 68 ≤ length (now (c .before .before .before .args .s))
 lies c = omega (arith, c .before .loop .inv .place, c .loop-test .taken, c .before .before .before .pre)
-
-add-get-u32 : tie.Need-add-get-u32 Inv-loop μ-loop
-add-get-u32 c = let e = lies c in search needs
-
-get-u32-requires : tie.Need-get-u32-requires Inv-loop μ-loop
-get-u32-requires c κs = omega (arith, lies c)
-
-add-get-u32-2 : tie.Need-add-get-u32-2 Inv-loop μ-loop
-add-get-u32-2 c = let e = lies (c .before) in search needs
-
-get-u32-requires-2 : tie.Need-get-u32-requires-2 Inv-loop μ-loop
-get-u32-requires-2 c κs = omega (arith, lies (c .before))
-
-add-get-u32-3 : tie.Need-add-get-u32-3 Inv-loop μ-loop
-add-get-u32-3 c = let e = lies (c .before .before) in search needs
-
-get-u32-requires-3 : tie.Need-get-u32-requires-3 Inv-loop μ-loop
-get-u32-requires-3 c κs = omega (arith, lies (c .before .before))
 
 returns : tie.Need-returns Inv-loop μ-loop
 returns c =
@@ -41,17 +20,11 @@ returns c =
     let inside = avb .before .before .before in
     walk-stop (inside .before .loop .inv) (inside .loop-test .taken) (rw (← avb .before .before .get-u32 .ensures, ← avb .before .get-u322 .ensures, ← avb .get-u323 .ensures) (not-true _ (c .if1 .taken)))
 
-add-a : tie.Need-add-a Inv-loop μ-loop
-add-a c = let e = lies (c .before .before .before .before) in search needs
-
 loop-again : tie.Need-loop-again Inv-loop μ-loop
 loop-again c =
     let avb = c .before in
     let inside = avb .before .before .before in
     walk-turn (inside .before .loop .inv) (inside .loop-test .taken) (rw (← avb .before .before .get-u32 .ensures, ← avb .before .get-u322 .ensures, ← avb .get-u323 .ensures) (not-false _ (c .if1 .left)))
-
-returns-2 : tie.Need-returns-2 Inv-loop μ-loop
-returns-2 c = walk-end (c .before .loop .inv) (c .loop-test .left)
 
 pub unmanaged-spec : {M : Type 1} → statement M
 unmanaged-spec =
@@ -59,16 +32,16 @@ unmanaged-spec =
     (tie.spec
     Inv-loop
     μ-loop
-    loop-holds
-    add-get-u32
-    get-u32-requires
-    add-get-u32-2
-    get-u32-requires-2
-    add-get-u32-3
-    get-u32-requires-3
+    (λ c. walk-start)
+    (λ c. let e = lies c in search needs)
+    (λ c κs. omega (arith, lies c))
+    (λ c. let e = lies (c .before) in search needs)
+    (λ c κs. omega (arith, lies (c .before)))
+    (λ c. let e = lies (c .before .before) in search needs)
+    (λ c κs. omega (arith, lies (c .before .before)))
     returns
-    add-a
+    (λ c. let e = lies (c .before .before .before .before) in search needs)
     (λ c. search needs)
     (λ c. search needs)
     loop-again
-    returns-2)
+    (λ c. walk-end (c .before .loop .inv) (c .loop-test .left)))

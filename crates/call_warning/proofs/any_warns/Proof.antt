@@ -29,18 +29,6 @@ abbrev μ-loop : tie.MeasureT-loop
 form : (c : tie.Start Inv-loop μ-loop) → Formed (now (c .args .book))
 form c = passed (now (c .args .book)) (c .pre .0 .passes) .form
 
-user-count-requires : tie.Need-user-count-requires Inv-loop μ-loop
-user-count-requires c κs = omega (arith, form (c .before) .head)
-
-trade-count-requires : tie.Need-trade-count-requires Inv-loop μ-loop
-trade-count-requires c κs = omega (arith, form (c .before .before) .head)
-
-trades-offset-requires : tie.Need-trades-offset-requires Inv-loop μ-loop
-trades-offset-requires c κs = (form (c .before .before .before), c .before .user-count .ensures)
-
-loop-holds : tie.Need-loop-holds Inv-loop μ-loop
-loop-holds c = searching-start
-
 -- ---- the trades stand in the bytes to their end, and are the book's
 
 room : (c : tie.After-trades-offset Inv-loop μ-loop) → c .trades-offset .result + 20 * c .before .trade-count .result ≡ length (now (c .before .before .before .before .args .book))
@@ -52,15 +40,6 @@ lies c = omega (arith, room (c .before .before), c .before .loop .inv .place)
 by-trades : (c : tie.After-trades-offset Inv-loop μ-loop) → (p : Trade → Bool)
     → any p (recordsOf 20 tradeOf (c .before .trade-count .result) (drop (c .trades-offset .result) (now (c .before .before .before .before .args .book)))) ≡ any p (bookOf (now (c .before .before .before .before .args .book)) .trades)
 by-trades c p = ap (any p) (trades-there (now (c .before .before .before .before .args .book)) (c .trades-offset .ensures) (c .before .trade-count .ensures))
-
-add-read-trade : tie.Need-add-read-trade Inv-loop μ-loop
-add-read-trade c = omega (arith, lies c)
-
-part-read-trade-end : tie.Need-part-read-trade-end Inv-loop μ-loop
-part-read-trade-end c = omega (arith, lies c)
-
-read-trade-requires : tie.Need-read-trade-requires Inv-loop μ-loop
-read-trade-requires c κs = simp (length-take, length-drop) (omega (arith, lies (c .before)))
 
 warns-buyer-requires : tie.Need-warns-buyer-requires Inv-loop μ-loop
 warns-buyer-requires c κs =
@@ -90,9 +69,6 @@ returns c =
     let l = c .before .before .before .before .before in
     searching-found (l .loop .inv) (omega arith) (told (c .before)) (c .if1 .taken) ∙ by-trades (l .before) _
 
-add-a : tie.Need-add-a Inv-loop μ-loop
-add-a c = omega (arith, lies (c .before .before .before .before))
-
 loop-again : tie.Need-loop-again Inv-loop μ-loop
 loop-again c = searching-turn (c .before .before .before .before .before .loop .inv) (omega arith) (told (c .before)) (c .if1 .left)
 
@@ -105,20 +81,20 @@ any-warns-spec =
     (tie.spec
     Inv-loop
     μ-loop
-    user-count-requires
+    (λ c κs. omega (arith, form (c .before) .head))
     (λ c. search needs)
-    trade-count-requires
+    (λ c κs. omega (arith, form (c .before .before) .head))
     (λ c. search needs)
-    trades-offset-requires
-    loop-holds
-    add-read-trade
+    (λ c κs. (form (c .before .before .before), c .before .user-count .ensures))
+    (λ c. searching-start)
+    (λ c. omega (arith, lies c))
     (λ c. search needs)
     (λ c. search needs)
-    part-read-trade-end
-    read-trade-requires
+    (λ c. omega (arith, lies c))
+    (λ c κs. simp (length-take, length-drop) (omega (arith, lies (c .before))))
     warns-buyer-requires
     returns
-    add-a
+    (λ c. omega (arith, lies (c .before .before .before .before)))
     (λ c. search needs)
     (λ c. search needs)
     loop-again

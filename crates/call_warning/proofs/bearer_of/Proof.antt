@@ -9,9 +9,6 @@ use Rattle.call_warning.proofs.Ways.{seller-borne, seller-itself, selle
 use Rattle.call_warning.proofs.bearer_of.Statement.{statement}
 use Rattle.call_warning.proofs.bearer_of.Tie as tie
 
-version-requires : tie.Need-version-requires
-version-requires c κs = omega (arith, c .before .pre .0 .held .form .head)
-
 returns : tie.Need-returns
 unfolding asTrade
 returns c =
@@ -19,9 +16,6 @@ returns c =
     let v = h .before in
     let s = v .before .before in
     seller-itself (now (s .args .book)) (s .pre .0) (asTrade (s .args .t)) (s .pre .1) (sym (h .has-managers .ensures ∙ ap managersIn (v .version .ensures)) ∙ not-true (h .has-managers .result) (c .if1 .taken))
-
-place-of-requires : tie.Need-place-of-requires
-place-of-requires c κs = c .before .before .before .before .pre .0 .held .form
 
 -- the seller at its place
 there : (c : tie.After-place-of) → UserIn (now (c .before .before .before .before .before .args .book)) (c .place-of .result)
@@ -48,4 +42,7 @@ returns-2 c =
     seller-borne (now (s .args .book)) (s .pre .0) (asTrade (s .args .t)) (s .pre .1) (p .place-of .ensures .0) (c .bearer-of .ensures)
 
 pub bearer-of-spec : {M : Type 1} → statement M
-bearer-of-spec = tie.close (tie.spec version-requires (λ c κs. search needs) returns place-of-requires (λ c. search needs) bearer-of-requires returns-2)
+bearer-of-spec =
+    tie.close
+    (tie.spec (λ c κs. omega (arith, c .before .pre .0 .held .form .head)) (λ c κs. search needs) returns
+    (λ c κs. c .before .before .before .before .pre .0 .held .form) (λ c. search needs) bearer-of-requires returns-2)

@@ -11,9 +11,6 @@ use Rattle.call_warning.proofs.Ways.{blocked-most, flag-at, known-insid
 use Rattle.call_warning.proofs.is_flagged_shipper.Statement.{statement}
 use Rattle.call_warning.proofs.is_flagged_shipper.Tie as tie
 
-place-of-requires : tie.Need-place-of-requires
-place-of-requires c κs = c .before .pre .0 .0 .accepted .held .form
-
 -- the user at the place
 found : (p : tie.After-place-of) → let s = p .before .before in Found (now (s .args .book)) (s .args .id) (p .place-of .result)
 found p =
@@ -65,4 +62,5 @@ returns-2 c =
 
 pub is-flagged-shipper-spec : {M : Type 1} → statement M
 is-flagged-shipper-spec =
-    tie.close (tie.spec place-of-requires (λ c κs. found-user (found c)) returns positions-of-requires flagged-requires returns-2)
+    tie.close
+    (tie.spec (λ c κs. c .before .pre .0 .0 .accepted .held .form) (λ c κs. found-user (found c)) returns positions-of-requires flagged-requires returns-2)

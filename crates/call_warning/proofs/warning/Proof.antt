@@ -34,17 +34,11 @@ found c = c .before .seek .ensures .found (c .if1 .left)
 started : (c : tie.Else1) → opened (c .before) ≡ 0
 started c = c .before .seek .ensures .start (c .if1 .left)
 
-seek-requires : tie.Need-seek-requires
-seek-requires c κs = λ z. c .before .pre z .passes
-
 returns : tie.Need-returns
 unfolding onlyNumber
 returns c =
     let e = c .before in
     warning-refused (opened e) (figures e) (bytes e) (asked e) (e .seek .ensures) (c .if1 .taken)
-
-user-at-requires : tie.Need-user-at-requires
-user-at-requires c κs = found-user (found c)
 
 -- the role that was read is that of the user of the id
 role : (u : tie.After-user-at) → let e = u .before .before in u .user-at .result .role ≡ find (bookOf (bytes e) .users) (asked e) .party .role
@@ -66,9 +60,6 @@ user c = c .before .before
 -- what the opening questions give
 told : (n : tie.Else1) → OpenedFigures (figures (n .before)) (bytes (n .before))
 told n = n .before .before .before .pre (started n)
-
-read-prices-requires : tie.Need-read-prices-requires
-read-prices-requires c κs = header-lies (told (user c .before) .accepted .held .form)
 
 priced : (c : tie.After-read-prices) → let n = user (c .before) .before in Priced (bytes (n .before)) (c .read-prices .result)
 unfolding bookOf
@@ -135,4 +126,5 @@ returns-4 c =
 pub warning-spec : {M : Type 1} → statement M
 warning-spec =
     tie.close
-    (tie.spec seek-requires returns user-at-requires returns-2 read-prices-requires positions-of-requires flagged-requires returns-3 any-warns-requires returns-4)
+    (tie.spec (λ c κs z. c .before .pre z .passes) returns (λ c κs. found-user (found c)) returns-2
+    (λ c κs. header-lies (told (user c .before) .accepted .held .form)) positions-of-requires flagged-requires returns-3 any-warns-requires returns-4)

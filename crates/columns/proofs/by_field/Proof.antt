@@ -37,12 +37,6 @@ room c =
 add-at : tie.Need-add-at Inv-loop μ-loop
 add-at c = omega (arith, room c .0, c .before .before .before .before .before .before .before .before .before .before .before .fits .long)
 
-mul-column : tie.Need-mul-column Inv-loop μ-loop
-mul-column c = omega (arith, room c .1)
-
-add-column : tie.Need-add-column Inv-loop μ-loop
-add-column c = omega (arith, room c .1)
-
 loop-again : tie.Need-loop-again Inv-loop μ-loop
 loop-again c =
     let inside = c .before .before .before .before .before .before in
@@ -65,8 +59,8 @@ by-field-spec =
     (λ c κs. search needs)
     move-column-requires
     add-at
-    mul-column
-    add-column
+    (λ c. omega (arith, room c .1))
+    (λ c. omega (arith, room c .1))
     (λ c. search needs)
     (λ c. search needs)
     loop-again

@@ -13,9 +13,6 @@ Inv-loop s n long widths out₀ at₀ column₀ j₀ out at column j = Recording
 abbrev μ-loop : tie.MeasureT-loop
 μ-loop s n long widths out₀ at₀ column₀ j₀ out at column j = length widths - j
 
-loop-holds : tie.Need-loop-holds Inv-loop μ-loop
-loop-holds c = recording-start (c .before .before .before .pre .fields)
-
 move-column-requires : tie.Need-move-column-requires Inv-loop μ-loop
 move-column-requires c κs =
     let inside = c .before .before .before in
@@ -36,19 +33,10 @@ room c =
 add-at : tie.Need-add-at Inv-loop μ-loop
 add-at c = omega (arith, room c .0, c .before .before .before .before .before .before .before .before .before .before .before .fits .long)
 
-mul-column : tie.Need-mul-column Inv-loop μ-loop
-mul-column c = omega (arith, room c .1)
-
-add-column : tie.Need-add-column Inv-loop μ-loop
-add-column c = omega (arith, room c .1)
-
 loop-again : tie.Need-loop-again Inv-loop μ-loop
 loop-again c =
     let inside = c .before .before .before .before .before .before in
     recording-turn (inside .before .loop .inv) (inside .loop-test .taken) (c .before .before .before .before .wide .ensures) (c .before .before .move-column .ensures)
-
-same-length : tie.Need-same-length Inv-loop μ-loop
-same-length c = c .before .loop .inv .kept
 
 returns : tie.Need-returns Inv-loop μ-loop
 returns c = recording-end (c .before .before .before .before .before .pre) (c .before .loop .inv) (c .loop-test .left)
@@ -59,15 +47,15 @@ by-record-spec =
     (tie.spec
     Inv-loop
     μ-loop
-    loop-holds
+    (λ c. recording-start (c .before .before .before .pre .fields))
     (λ c. search needs)
     (λ c κs. search needs)
     move-column-requires
     add-at
-    mul-column
-    add-column
+    (λ c. omega (arith, room c .1))
+    (λ c. omega (arith, room c .1))
     (λ c. search needs)
     (λ c. search needs)
     loop-again
-    same-length
+    (λ c. c .before .loop .inv .kept)
     returns)

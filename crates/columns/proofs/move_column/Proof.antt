@@ -4,9 +4,6 @@ use Rattle.columns.proofs.Turns.{movable-as}
 use Rattle.columns.proofs.move_column.Statement.{statement}
 use Rattle.columns.proofs.move_column.Tie as tie
 
-move-fields-requires : tie.Need-move-fields-requires
-move-fields-requires c κs = movable-as (c .before .if1 .taken) (c .before .before .before .before .pre)
-
 returns : tie.Need-returns
 returns c = rw (c .before .before .before .before .if1 .taken) (c .before .before .move-fields .ensures)
 
@@ -26,7 +23,7 @@ pub move-column-spec : {M : Type 1} → statement M
 move-column-spec =
     tie.close
     (tie.spec
-    move-fields-requires
+    (λ c κs. movable-as (c .before .if1 .taken) (c .before .before .before .before .pre))
     (λ c. search needs)
     returns
     move-fields-requires-2

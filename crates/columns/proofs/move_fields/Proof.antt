@@ -16,9 +16,6 @@ Inv-loop s from step out₀ to apart n width i₀ out i = Moving width n s from 
 abbrev μ-loop : tie.MeasureT-loop
 μ-loop s from step out₀ to apart n width i₀ out i = n - i
 
-loop-holds : tie.Need-loop-holds Inv-loop μ-loop
-loop-holds c = moving-start
-
 -- the field of the record at i lies in both lists
 from-lies : (c : tie.In-loop Inv-loop μ-loop)
     → let a = c .before .before .before .before .args in
@@ -29,24 +26,6 @@ to-lies : (c : tie.In-loop Inv-loop μ-loop)
     → let a = c .before .before .before .before .args in
     a .to + a .apart * c .before .loop .i + a .width ≤ length (c .before .loop .out)
 to-lies c = rw (c .before .loop .inv .kept) (c .before .before .before .before .pre .target (c .before .loop .i) (omega arith))
-
-mul-get : tie.Need-mul-get Inv-loop μ-loop
-mul-get c = omega (arith, from-lies c)
-
-add-get : tie.Need-add-get Inv-loop μ-loop
-add-get c = omega (arith, from-lies c)
-
-get-requires : tie.Need-get-requires Inv-loop μ-loop
-get-requires c κs = (c .before .before .before .before .pre .narrow, from-lies c)
-
-mul-put : tie.Need-mul-put Inv-loop μ-loop
-mul-put c = omega (arith, to-lies (c .before .before))
-
-add-put : tie.Need-add-put Inv-loop μ-loop
-add-put c = omega (arith, to-lies (c .before .before))
-
-put-requires : tie.Need-put-requires Inv-loop μ-loop
-put-requires c κs = to-lies (c .before .before)
 
 loop-again : tie.Need-loop-again Inv-loop μ-loop
 loop-again c =
@@ -59,27 +38,21 @@ loop-again c =
     moving-turn (λ i. known .shared-slice-known .given i .fits) (known .before .pre .source) (l .inv) (inside .loop-test .taken)
     (put .put .ensures ∙ ap (λ (v : ℕ). setField (a .width) (a .to + a .apart * l .i) v (l .out)) (got .get .ensures .0))
 
-same-length : tie.Need-same-length Inv-loop μ-loop
-same-length c = c .before .loop .inv .kept
-
-returns : tie.Need-returns Inv-loop μ-loop
-returns c = moving-end (c .before .loop .inv) (omega arith)
-
 pub move-fields-spec : {M : Type 1} → statement M
 move-fields-spec =
     tie.close
     (tie.spec
     Inv-loop
     μ-loop
-    loop-holds
-    mul-get
-    add-get
-    get-requires
-    mul-put
-    add-put
-    put-requires
+    (λ c. moving-start)
+    (λ c. omega (arith, from-lies c))
+    (λ c. omega (arith, from-lies c))
+    (λ c κs. (c .before .before .before .before .pre .narrow, from-lies c))
+    (λ c. omega (arith, to-lies (c .before .before)))
+    (λ c. omega (arith, to-lies (c .before .before)))
+    (λ c κs. to-lies (c .before .before))
     (λ c. search needs)
     (λ c. search needs)
     loop-again
-    same-length
-    returns)
+    (λ c. c .before .loop .inv .kept)
+    (λ c. moving-end (c .before .loop .inv) (omega arith)))

@@ -11,9 +11,6 @@ Inv-loop standing areas rates from to most₀ i₀ most i = (from ≤ i) × High
 abbrev μ-loop : tie.MeasureT-loop
 μ-loop standing areas rates from to most₀ i₀ most i = to - i
 
-loop-holds : tie.Need-loop-holds Inv-loop μ-loop
-loop-holds c = (omega arith, highest-start (c .args .from))
-
 amount-at-requires : tie.Need-amount-at-requires Inv-loop μ-loop
 amount-at-requires c κs =
     let l = c .before in
@@ -26,9 +23,8 @@ loop-again c =
     let q = l .before .pre in
     (omega (arith, l .loop .inv .0), highest-more (l .loop .inv .1) (l .loop .inv .0) (q .standing-most (l .loop .i) (l .loop .inv .0) (c .before .before .loop-test .taken)) (c .before .amount-at .ensures) (c .larger .ensures))
 
-returns : tie.Need-returns Inv-loop μ-loop
-returns c = highest-end (c .loop-test .left) (c .before .loop .inv .1)
-
 pub highest-spec : {M : Type 1} → statement M
 highest-spec =
-    tie.close (tie.spec Inv-loop μ-loop loop-holds amount-at-requires (λ c κs. search needs) (λ c. search needs) (λ c. search needs) loop-again returns)
+    tie.close
+    (tie.spec Inv-loop μ-loop (λ c. (omega arith, highest-start (c .args .from))) amount-at-requires (λ c κs. search needs) (λ c. search needs)
+    (λ c. search needs) loop-again (λ c. highest-end (c .loop-test .left) (c .before .loop .inv .1)))

@@ -10,9 +10,6 @@ Inv-loop standing areas rates mwh start to i₀ i = NotYet rates standing areas 
 abbrev μ-loop : tie.MeasureT-loop
 μ-loop standing areas rates mwh start to i₀ i = to - i
 
-loop-holds : tie.Need-loop-holds Inv-loop μ-loop
-loop-holds c = next-start (c .pre .1)
-
 amount-at-requires : tie.Need-amount-at-requires Inv-loop μ-loop
 amount-at-requires c κs =
     let l = c .before in
@@ -25,9 +22,8 @@ returns c = next-found (c .before .before .before .loop .inv) (c .before .amount
 loop-again : tie.Need-loop-again Inv-loop μ-loop
 loop-again c = next-more (c .before .before .before .loop .inv) (c .before .amount-at .ensures) (c .before .before .loop-test .taken) (c .if1 .left)
 
-returns-2 : tie.Need-returns-2 Inv-loop μ-loop
-returns-2 c = next-none (c .before .loop .inv) (c .loop-test .left)
-
 pub next-peak-spec : {M : Type 1} → statement M
 next-peak-spec =
-    tie.close (tie.spec Inv-loop μ-loop loop-holds amount-at-requires returns (λ c. search needs) (λ c. search needs) loop-again returns-2)
+    tie.close
+    (tie.spec Inv-loop μ-loop (λ c. next-start (c .pre .1)) amount-at-requires returns (λ c. search needs) (λ c. search needs) loop-again
+    (λ c. next-none (c .before .loop .inv) (c .loop-test .left)))

@@ -28,12 +28,6 @@ returns c =
     let r = l .before .pre .1 in
     cutting-end (l .loop .inv .0) (λ from s p. sweep-end s (q .1) p (r .1) (q .2) (l .loop .inv .1 from s p) (l .loop .inv .0 .room))
 
-mul-cuts : tie.Need-mul-cuts Inv-loop μ-loop
-mul-cuts c = omega (arith, c .if1 .left, c .before .before .before .pre .0 .0 .inside)
-
-element-copy-out-cuts : tie.Need-element-copy-out-cuts Inv-loop μ-loop
-element-copy-out-cuts c = omega (arith, c .if1 .left, c .before .before .before .pre .0 .0 .inside)
-
 add-cuts : tie.Need-add-cuts Inv-loop μ-loop
 add-cuts c = let l = c .before .before .before in omega (arith, l .loop .inv .0 .behind (l .loop .i) (omega arith))
 
@@ -87,5 +81,6 @@ returns-2 c =
 pub peak-cuts-spec : {M : Type 1} → statement M
 peak-cuts-spec =
     tie.close
-    (tie.spec Inv-loop μ-loop loop-holds returns mul-cuts element-copy-out-cuts add-cuts element-write-cuts rate-at-requires add-lost add-next-peak
+    (tie.spec Inv-loop μ-loop loop-holds returns (λ c. omega (arith, c .if1 .left, c .before .before .before .pre .0 .0 .inside))
+    (λ c. omega (arith, c .if1 .left, c .before .before .before .pre .0 .0 .inside)) add-cuts element-write-cuts rate-at-requires add-lost add-next-peak
     next-peak-requires loop-less loop-again returns-2)

@@ -4,18 +4,6 @@ use Rattle.cut_peaks.proofs.Keeping.{never, same-short}
 use Rattle.cut_peaks.proofs.serves.Statement.{statement}
 use Rattle.cut_peaks.proofs.serves.Tie as tie
 
-returns : tie.Need-returns
-returns c = λ e. absurd (never e)
-
-returns-2 : tie.Need-returns-2
-returns-2 c = λ e. absurd (never e)
-
-returns-3 : tie.Need-returns-3
-returns-3 c = λ e. absurd (never e)
-
-returns-4 : tie.Need-returns-4
-returns-4 c = λ e. absurd (never e)
-
 returns-5 : tie.Need-returns-5
 returns-5 c = λ e. (
   e,
@@ -26,4 +14,5 @@ returns-5 c = λ e. (
 pub serves-spec : {M : Type 1} → statement M
 serves-spec =
     tie.close
-    (tie.spec returns (λ c. search needs) (λ c κs. search needs) returns-2 (λ c. search needs) (λ c κs. search needs) returns-3 (λ c. search needs) (λ c κs. search needs) returns-4 returns-5)
+    (tie.spec (λ c e. absurd (never e)) (λ c. search needs) (λ c κs. search needs) (λ c e. absurd (never e)) (λ c. search needs) (λ c κs. search needs)
+    (λ c e. absurd (never e)) (λ c. search needs) (λ c κs. search needs) (λ c e. absurd (never e)) returns-5)

@@ -1,7 +1,8 @@
 -- `read_few`: one trade more is read at each turn. Assumes nothing.
-use Rattle.base.specs.Basics.{refl, _-_, arith, length, needs}
+use Rattle.base.specs.Basics.{refl, _-_, arith, length, getD, needs}
 use Rattle.base.proofs.Rewriting.{Rewritten, rewritten-start}
 use Rattle.book_format.specs.Book.{tradesOf}
+use Rattle.book_format.specs.Places.{TradeIn}
 use Rattle.book_records.specs.Trade.{asTrade}
 use Rattle.cut_records.specs.Places.{atPlaces}
 use Rattle.book_format.proofs.Places.{trade-low}
@@ -16,20 +17,10 @@ Inv-loop book at origins few₀ k₀ few k = Rewritten asTrade 32 (atPlaces (tra
 abbrev μ-loop : tie.MeasureT-loop
 μ-loop book at origins few₀ k₀ few k = length origins - k
 
-loop-holds : tie.Need-loop-holds Inv-loop μ-loop
-loop-holds c = rewritten-start refl
-
-cast-place : tie.Need-cast-place Inv-loop μ-loop
-cast-place c =
-    let l = c .before .before in
-    let s = l .before .before .before .before in
-    omega (arith, trade-low (place-of (s .pre) (l .loop .k) (c .before .loop-test .taken)))
-
-trade-at-requires : tie.Need-trade-at-requires Inv-loop μ-loop
-trade-at-requires c κs =
-    let l = c .before .before in
-    let s = l .before .before .before .before in
-    place-of (s .pre) (l .loop .k) (c .before .loop-test .taken)
+-- the place that is read holds a trade
+here : (l : tie.In-loop Inv-loop μ-loop)
+    → let a = l .before .before .before .before .before .args in TradeIn (a .book .now) (a .at) (getD (a .origins .now) (l .before .loop .k) 0)
+here l = place-of (l .before .before .before .before .before .pre) (l .before .loop .k) (l .loop-test .taken)
 
 loop-again : tie.Need-loop-again Inv-loop μ-loop
 loop-again c =
@@ -47,5 +38,5 @@ returns c =
 pub read-few-spec : {M : Type 1} → statement M
 read-few-spec =
     tie.close
-    (tie.spec Inv-loop μ-loop (λ c κs. search needs) loop-holds (λ c. search needs) cast-place trade-at-requires (λ c. search needs) (λ c. search needs)
-    (λ c. search needs) (λ c. search needs) loop-again returns)
+    (tie.spec Inv-loop μ-loop (λ c κs. search needs) (λ c. rewritten-start refl) (λ c. search needs) (λ c. omega (arith, trade-low (here (c .before))))
+    (λ c κs. here (c .before)) (λ c. search needs) (λ c. search needs) (λ c. search needs) (λ c. search needs) loop-again returns)

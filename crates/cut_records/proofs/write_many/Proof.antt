@@ -12,15 +12,6 @@ Inv-loop book₀ at origins many k₀ book k = PlacedSo book₀ origins many boo
 abbrev μ-loop : tie.MeasureT-loop
 μ-loop book₀ at origins many k₀ book k = length origins - k
 
-loop-holds : tie.Need-loop-holds Inv-loop μ-loop
-loop-holds c = placed-start (c .before .before .pre)
-
-cast-place : tie.Need-cast-place Inv-loop μ-loop
-cast-place c =
-    let l = c .before .before in
-    let s = l .before .before .before in
-    omega (arith, trade-low (place-of (s .pre) (l .loop .k) (c .before .loop-test .taken)))
-
 put-trade-requires : tie.Need-put-trade-requires Inv-loop μ-loop
 put-trade-requires c κs =
     let l = c .before .before .before .before in
@@ -34,14 +25,11 @@ loop-again c =
     let few = s .pre .few in
     placed-turn (s .pre) (l .loop .inv) _ (c .before .before .before .before .before .before .loop-test .taken) (search needs) (c .before .before .put-trade .ensures)
 
-same-length : tie.Need-same-length Inv-loop μ-loop
-same-length c = placed-long (c .before .before .before .before .pre) (c .before .loop .inv)
-
-returns : tie.Need-returns Inv-loop μ-loop
-returns c = placed-end (c .before .before .before .before .pre) (c .before .loop .inv) (c .loop-test .left)
-
 pub write-many-spec : {M : Type 1} → statement M
 write-many-spec =
     tie.close
-    (tie.spec Inv-loop μ-loop loop-holds (λ c. search needs) cast-place (λ c. search needs) (λ c. search needs) put-trade-requires (λ c. search needs)
-    (λ c. search needs) loop-again same-length returns)
+    (tie.spec Inv-loop μ-loop (λ c. placed-start (c .before .before .pre)) (λ c. search needs)
+    (λ c. let l = c .before .before in omega (arith, trade-low (place-of (l .before .before .before .pre) (l .loop .k) (c .before .loop-test .taken))))
+    (λ c. search needs) (λ c. search needs) put-trade-requires (λ c. search needs) (λ c. search needs) loop-again
+    (λ c. placed-long (c .before .before .before .before .pre) (c .before .loop .inv))
+    (λ c. placed-end (c .before .before .before .before .pre) (c .before .loop .inv) (c .loop-test .left)))

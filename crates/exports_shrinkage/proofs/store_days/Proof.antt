@@ -11,36 +11,12 @@ Inv-loop answer₀ days i₀ answer i = Storing (kwhOf days) 0 answer₀ answer 
 abbrev μ-loop : tie.MeasureT-loop
 μ-loop answer₀ days i₀ answer i = 30 - i
 
-loop-holds : tie.Need-loop-holds Inv-loop μ-loop
-loop-holds c = storing-start _ 0 (c .args .answer .now)
-
-mul-answer : tie.Need-mul-answer Inv-loop μ-loop
-mul-answer c = omega arith
-
-element-copy-out-answer : tie.Need-element-copy-out-answer Inv-loop μ-loop
-element-copy-out-answer c = omega arith
-
-mul-answer-2 : tie.Need-mul-answer-2 Inv-loop μ-loop
-mul-answer-2 c = omega arith
-
-slice-write-answer : tie.Need-slice-write-answer Inv-loop μ-loop
-slice-write-answer c = omega (arith, c .before .loop .inv .long, c .before .before .pre)
-
-add-i : tie.Need-add-i Inv-loop μ-loop
-add-i c = omega arith
-
-loop-less : tie.Need-loop-less Inv-loop μ-loop
-loop-less c = omega arith
-
 loop-again : tie.Need-loop-again Inv-loop μ-loop
 unfolding kwhOf
 loop-again c =
     let l = c .before .loop in
     let days = c .before .before .args .t2 in
     storing-next (l .inv) _ 0 (omega (arith, c .before .before .good, length-map days (λ k. k .0))) (sym (List·getD-map (λ k. k .0) days (l .i) (record { 0 = 0 })))
-
-same-length : tie.Need-same-length Inv-loop μ-loop
-same-length c = c .before .loop .inv .long
 
 returns : tie.Need-returns Inv-loop μ-loop
 unfolding kwhOf
@@ -54,13 +30,13 @@ store-days-spec =
     (tie.spec
     Inv-loop
     μ-loop
-    loop-holds
-    mul-answer
-    element-copy-out-answer
-    mul-answer-2
-    slice-write-answer
-    add-i
-    loop-less
+    (λ c. storing-start _ 0 (c .args .answer .now))
+    (λ c. omega arith)
+    (λ c. omega arith)
+    (λ c. omega arith)
+    (λ c. omega (arith, c .before .loop .inv .long, c .before .before .pre))
+    (λ c. omega arith)
+    (λ c. omega arith)
     loop-again
-    same-length
+    (λ c. c .before .loop .inv .long)
     returns)

@@ -10,21 +10,9 @@ Inv-loop s₀ i₀ s i = FilledTo (length s₀) 0 s i
 abbrev μ-loop : tie.MeasureT-loop
 μ-loop s₀ i₀ s i = length s - i
 
-loop-holds : tie.Need-loop-holds Inv-loop μ-loop
-loop-holds c = filled-start refl
-
-loop-again : tie.Need-loop-again Inv-loop μ-loop
-loop-again c = filled-next (c .before .loop .inv) (c .loop-test .taken)
-
-loop-less : tie.Need-loop-less Inv-loop μ-loop
-loop-less c = simp length-set (omega arith)
-
-same-length : tie.Need-same-length Inv-loop μ-loop
-same-length c = c .before .loop .inv .long
-
-returns : tie.Need-returns Inv-loop μ-loop
-returns c = filled-end (c .before .loop .inv) (c .loop-test .left)
-
 pub clear-spec : {M : Type 1} → statement M
 clear-spec =
-    tie.close (tie.spec Inv-loop μ-loop loop-holds (λ c. search needs) (λ c. search needs) loop-less loop-again same-length returns)
+    tie.close
+    (tie.spec Inv-loop μ-loop (λ c. filled-start refl) (λ c. search needs) (λ c. search needs) (λ c. simp length-set (omega arith))
+    (λ c. filled-next (c .before .loop .inv) (c .loop-test .taken)) (λ c. c .before .loop .inv .long)
+    (λ c. filled-end (c .before .loop .inv) (c .loop-test .left)))

@@ -11,9 +11,6 @@ Inv-loop s so-far₀ i₀ so-far i = Answering so-far (zeros (drop i s)) (zeros 
 abbrev μ-loop : tie.MeasureT-loop
 μ-loop s so-far₀ i₀ so-far i = length s - i
 
-loop-holds : tie.Need-loop-holds Inv-loop μ-loop
-loop-holds c = answering-start
-
 loop-again : tie.Need-loop-again Inv-loop μ-loop
 loop-again c =
     let l = c .before .before in
@@ -26,4 +23,5 @@ returns c =
 
 pub is-zero-spec : {M : Type 1} → statement M
 is-zero-spec =
-    tie.close (tie.spec Inv-loop μ-loop loop-holds (λ c. search needs) (λ c. search needs) (λ c. search needs) loop-again returns)
+    tie.close
+    (tie.spec Inv-loop μ-loop (λ c. answering-start) (λ c. search needs) (λ c. search needs) (λ c. search needs) loop-again returns)

@@ -11,9 +11,6 @@ Inv-loop s t so-far₀ i₀ so-far i = Answering so-far (sameBytes (drop i s) (d
 abbrev μ-loop : tie.MeasureT-loop
 μ-loop s t so-far₀ i₀ so-far i = length s - i
 
-loop-holds : tie.Need-loop-holds Inv-loop μ-loop
-loop-holds c = answering-start
-
 loop-again : tie.Need-loop-again Inv-loop μ-loop
 loop-again c =
     let l = c .before .before .before in
@@ -27,4 +24,4 @@ returns c =
 pub same-spec : {M : Type 1} → statement M
 same-spec =
     tie.close
-    (tie.spec Inv-loop μ-loop loop-holds (λ c. search needs) (λ c. search needs) (λ c. search needs) (λ c. search needs) loop-again returns)
+    (tie.spec Inv-loop μ-loop (λ c. answering-start) (λ c. search needs) (λ c. search needs) (λ c. search needs) (λ c. search needs) loop-again returns)

@@ -4,16 +4,11 @@ use Rattle.cut_peaks.proofs.Keeping.{never}
 use Rattle.run_turns.proofs.is_kept.Statement.{statement}
 use Rattle.run_turns.proofs.is_kept.Tie as tie
 
-returns : tie.Need-returns
-returns c = (λ e. absurd (never e), λ e h. omega (arith, c .if1 .taken))
-
-returns-2 : tie.Need-returns-2
-returns-2 c = (λ e. absurd (never e), λ e h. omega (arith, c .if2 .taken))
-
 returns-3 : tie.Need-returns-3
 returns-3 c = (λ e. (omega (arith, c .before .before .before .if1 .left), omega (arith, c .if2 .left)), λ e h. absurd (never (sym e)))
 
 pub is-kept-spec : {M : Type 1} → statement M
 is-kept-spec =
     tie.close
-    (tie.spec returns (λ c. search needs) (λ c. search needs) (λ c. search needs) (λ c. search needs) (λ c. search needs) (λ c. search needs) returns-2 returns-3)
+    (tie.spec (λ c. (λ e. absurd (never e), λ e h. omega (arith, c .if1 .taken))) (λ c. search needs) (λ c. search needs) (λ c. search needs)
+    (λ c. search needs) (λ c. search needs) (λ c. search needs) (λ c. (λ e. absurd (never e), λ e h. omega (arith, c .if2 .taken))) returns-3)

@@ -12,12 +12,6 @@ Inv-loop s n date i₀ i = NoneLater s n date i
 abbrev μ-loop : tie.MeasureT-loop
 μ-loop s n date i₀ i = i
 
-loop-holds : tie.Need-loop-holds Inv-loop μ-loop
-loop-holds c = later-start
-
-read-set-requires : tie.Need-read-set-requires Inv-loop μ-loop
-read-set-requires c κs = simp (length-take, length-drop) (omega arith)
-
 returns : tie.Need-returns Inv-loop μ-loop
 unfolding asSet
 returns c =
@@ -40,7 +34,7 @@ in-force-spec =
     (tie.spec
     Inv-loop
     μ-loop
-    loop-holds
+    (λ c. later-start)
     (λ c. search needs)
     (λ c. search needs)
     (λ c. search needs)
@@ -48,7 +42,7 @@ in-force-spec =
     (λ c. search needs)
     (λ c. search needs)
     (λ c. search needs)
-    read-set-requires
+    (λ c κs. simp (length-take, length-drop) (omega arith))
     returns
     (λ c. search needs)
     loop-again

@@ -28,9 +28,6 @@ returns c =
     let taken = c .before .if1 .taken in
     store-16 (unformed (bytes asked) (sym (asked .is-formed .ensures) ∙ not-true _ taken)) (c .today-with .ensures .0) (c .today-with .ensures .1)
 
-get-u8-requires : tie.Need-get-u8-requires
-get-u8-requires c κs = omega (arith, formed-room (bytes (c .before)) (is-formed c))
-
 sets-valid-requires : tie.Need-sets-valid-requires
 sets-valid-requires c κs = omega (arith, formed-room (bytes (c .before .before)) (is-formed (c .before)), count c)
 
@@ -55,7 +52,7 @@ of-store-spec =
     (λ c κs. search needs)
     (λ c κs. search needs)
     returns
-    get-u8-requires
+    (λ c κs. omega (arith, formed-room (bytes (c .before)) (is-formed c)))
     (λ c. search needs)
     sets-valid-requires
     (λ c κs. search needs)

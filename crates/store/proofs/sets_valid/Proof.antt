@@ -11,12 +11,6 @@ Inv-loop s n last₀ i₀ a₀ last i a = SetsLeft s n last i a
 abbrev μ-loop : tie.MeasureT-loop
 μ-loop s n last₀ i₀ a₀ last i a = n - i
 
-loop-holds : tie.Need-loop-holds Inv-loop μ-loop
-loop-holds c = sets-start
-
-read-set-requires : tie.Need-read-set-requires Inv-loop μ-loop
-read-set-requires c κs = simp (length-take, length-drop) (omega arith)
-
 returns : tie.Need-returns Inv-loop μ-loop
 unfolding asSet
 returns c =
@@ -37,21 +31,18 @@ loop-again c =
     sets-turn (read .before .before .before .loop .inv) (omega arith) (read .read-set .ensures) (c .before .before .if1 .left)
     (sym (asked .ensures) ∙ not-false (asked .result) (c .if2 .left))
 
-returns-3 : tie.Need-returns-3 Inv-loop μ-loop
-returns-3 c = sets-end (c .before .loop .inv) (omega arith)
-
 pub sets-valid-spec : {M : Type 1} → statement M
 sets-valid-spec =
     tie.close
     (tie.spec
     Inv-loop
     μ-loop
-    loop-holds
+    (λ c. sets-start)
     (λ c. search needs)
     (λ c. search needs)
     (λ c. search needs)
     (λ c. search needs)
-    read-set-requires
+    (λ c κs. simp (length-take, length-drop) (omega arith))
     returns
     (λ c κs. search needs)
     returns-2
@@ -59,4 +50,4 @@ sets-valid-spec =
     (λ c. search needs)
     (λ c. search needs)
     loop-again
-    returns-3)
+    (λ c. sets-end (c .before .loop .inv) (omega arith)))

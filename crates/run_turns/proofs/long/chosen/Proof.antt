@@ -3,9 +3,6 @@ use Rattle.base.specs.Basics.{now, needs}
 use Rattle.run_turns.proofs.long.chosen.Statement.{statement}
 use Rattle.run_turns.proofs.long.chosen.Tie as tie
 
-shorts-at-requires : tie.Need-shorts-at-requires
-shorts-at-requires c κs = c .pre .0 .5
-
 choose-requires : tie.Need-choose-requires
 choose-requires c κs = let b = c .before .before .before in ((b .pre .0 .0, b .pre .0 .1, b .pre .0 .2, b .pre .0 .3, b .pre .0 .4), b .pre .1)
 
@@ -21,4 +18,4 @@ returns c =
     }
 
 pub chosen-spec : {M : Type 1} → statement M
-chosen-spec = tie.close (tie.spec shorts-at-requires choose-requires returns)
+chosen-spec = tie.close (tie.spec (λ c κs. c .pre .0 .5) choose-requires returns)

@@ -1,5 +1,5 @@
 -- `next_turn`: by the cuts that what is kept tells, or as any other. Assumes nothing.
-use Rattle.base.specs.Basics.{arith, needs}
+use Rattle.base.specs.Basics.{_<_, arith, needs}
 use Rattle.run_reduction.proofs.Steps.{part-rises, run-prices, sales-in}
 use Rattle.run_turns.proofs.Others.{keeps-nothing}
 use Rattle.run_turns.proofs.Sweeps.{sweep-cuts, sweep-end}
@@ -7,33 +7,16 @@ use Rattle.run_turns.proofs.Turning.{reached-now}
 use Rattle.run_turns.proofs.long.next_turn.Statement.{statement}
 use Rattle.run_turns.proofs.long.next_turn.Tie as tie
 
-mul-from : tie.Need-mul-from
-mul-from c = let s = c .before in omega (arith, s .pre .0 .1, s .pre .0 .0 .risk .opened .accepted .held .form .users)
-
-element-copy-out-from : tie.Need-element-copy-out-from
-element-copy-out-from c = let s = c .before in omega (arith, s .pre .0 .1, s .pre .0 .0 .risk .opened .accepted .held .form .users)
-
-add-to : tie.Need-add-to
-add-to c = let s = c .before .before in omega (arith, s .pre .0 .1, s .pre .0 .0 .risk .opened .accepted .held .form .users)
-
-mul-to : tie.Need-mul-to
-mul-to c = let s = c .before .before in omega (arith, s .pre .0 .1, s .pre .0 .0 .risk .opened .accepted .held .form .users)
-
-element-copy-out-to : tie.Need-element-copy-out-to
-element-copy-out-to c = let s = c .before .before in omega (arith, s .pre .0 .1, s .pre .0 .0 .risk .opened .accepted .held .form .users)
-
-mul-asked : tie.Need-mul-asked
-mul-asked c = let s = c .before .before .before in omega (arith, s .pre .0 .1, s .pre .0 .0 .risk .opened .accepted .held .form .users)
-
-element-copy-out-asked : tie.Need-element-copy-out-asked
-element-copy-out-asked c = let s = c .before .before .before in omega (arith, s .pre .0 .1, s .pre .0 .0 .risk .opened .accepted .held .form .users)
+-- the user's place is one of 64
+low : (s : tie.Start) → s .args .place < 64
+low s = omega (arith, s .pre .0 .1, s .pre .0 .0 .risk .opened .accepted .held .form .users)
 
 chosen-requires : tie.Need-chosen-requires
 chosen-requires c κs =
     let s = c .before .before .before .before .before .before .before in
     let q = s .pre .0 .0 in
     let k = s .pre .0 .1 in
-    ((run-prices q, sales-in q k (reached-now (s .pre .1 .0 .0 .going)), part-rises q k, s .pre .1 .0 .1, s .pre .0 .2, omega (arith, s .pre .0 .1, s .pre .0 .0 .risk .opened .accepted .held .form .users)), s .pre .1 .1 .kept)
+    ((run-prices q, sales-in q k (reached-now (s .pre .1 .0 .0 .going)), part-rises q k, s .pre .1 .0 .1, s .pre .0 .2, low s), s .pre .1 .1 .kept)
 
 sweep-requires : tie.Need-sweep-requires
 sweep-requires c κs =
@@ -62,5 +45,7 @@ returns-2 c =
 pub next-turn-spec : {M : Type 1} → statement M
 next-turn-spec =
     tie.close
-    (tie.spec mul-from element-copy-out-from add-to mul-to element-copy-out-to mul-asked element-copy-out-asked chosen-requires sweep-requires returns clear-requires
-    plain-turn-requires (λ c κs. search needs) returns-2)
+    (tie.spec (λ c. omega (arith, low (c .before))) (λ c. omega (arith, low (c .before))) (λ c. omega (arith, low (c .before .before)))
+    (λ c. omega (arith, low (c .before .before))) (λ c. omega (arith, low (c .before .before))) (λ c. omega (arith, low (c .before .before .before)))
+    (λ c. omega (arith, low (c .before .before .before))) chosen-requires sweep-requires returns clear-requires plain-turn-requires (λ c κs. search needs)
+    returns-2)
