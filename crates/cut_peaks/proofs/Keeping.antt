@@ -1,6 +1,6 @@
 -- What is kept of a seller is that of its sales; the cuts of its highest sales are those of both tiers. Assumes nothing.
 use Rattle.base.specs.Basics.{_≡_, refl, sym, ap, subst, _∙_, inl, inr, Bool, true, false, cond, not, _||_, List, [], _∷_, ℕ, zero, suc, _*_, _-_, _≤_, _<_, arith}
-use Rattle.base.specs.Basics.{T, eqb, length, getD, ext-getD, length-sets, sets}
+use Rattle.base.specs.Basics.{T, min, eqb, ltb, lt-ltb, length, getD, ext-getD, length-sets, sets}
 use Rattle.base.proofs.Linear.{by-order}
 use Rattle.base.proofs.Tests.{by-case, of-three}
 use Rattle.cut_shares.proofs.Cases.{tier-none}
@@ -18,7 +18,7 @@ use Rattle.rules.specs.Areas.{Prices}
 use Rattle.rules.specs.Reduction.{together}
 use Rattle.rules.specs.Shares.{tierCuts, tierWorth}
 use Rattle.units.specs.Prices.{InRange}
-use Rattle.cut_peaks.specs.Keeping.{Below, bounded, heightIn, tierHeight, Chosen, Fits, KeptFor, SameShort, shortOf, tierRates}
+use Rattle.cut_peaks.specs.Keeping.{Below, bounded, heightIn, loweredTo, tierHeight, Chosen, Fits, KeptFor, SameShort, shortOf, tierRates}
 use Rattle.cut_peaks.specs.Peaks.{Highest, NextPeak, NoneCut, PeakCuts, Peaked, amountAt, tierOf}
 use Rattle.cut_peaks.specs.declared.Choice.{Choice}
 use Rattle.cut_peaks.specs.declared.Heights.{Heights}
@@ -89,6 +89,46 @@ below-seen {h} {ns} {areas} {from} {to} s p t a =
           (λ x y z. x) (λ x y z. y) (λ x y z. z) (getD areas i 0) (s .area-most i l m) (p .most i l m) (t .most i l m) (a .most i l m);
       few = of-three (λ (area : ℕ). heightIn h area ≤ 100000) (p .few) (t .few) (a .few);
     }
+
+-- heights that are lowered where an area has a rate
+pub not-lowered : (rate n m : ℕ) → rate ≡ 0 → n ≡ cond (ltb 0 rate) m n
+not-lowered rate n m e = rw e refl
+
+pub lowered-there : (rate n m : ℕ) {l : ℕ} → 0 < rate → l ≡ m → l ≡ cond (ltb 0 rate) m n
+lowered-there rate n m h e = rw (lt-ltb 0 rate h) e
+
+abbrev by-area : ℕ → ℕ → ℕ → Heights
+by-area p t a = record { pvb = p; tvb = t; avb = a }
+
+pub lowered-each : {h : Heights} {p t a : ℕ} → p ≡ h .pvb → t ≡ h .tvb → a ≡ h .avb → by-area p t a ≡ h
+lowered-each {h} {p} {t} {a} e f g = ap (λ (x : ℕ). by-area x t a) e ∙ ap (λ (x : ℕ). by-area (h .pvb) x a) f ∙ ap (by-area (h .pvb) (h .tvb)) g
+
+-- where no sale of the tier stands at an amount
+min-in : (c : Bool) (n h mwh : ℕ) → n ≤ h → cond c n 0 < mwh → n ≤ cond c (min h (mwh - 1)) h
+min-in true n h mwh l m = omega arith
+min-in false n h mwh l m = l
+
+min-le : (c : Bool) (h most : ℕ) → cond c (min h most) h ≤ h
+min-le true h most = omega arith
+min-le false h most = omega arith
+
+pub below-lowered : {h : Heights} {rates ns areas : List ℕ} {mwh from to place : ℕ} → Sales ns areas from to → Below h ns areas from to → NextPeak rates ns areas mwh from to place → to ≤ place
+    → {low : Heights} → low ≡ loweredTo h rates (mwh - 1) → Below low ns areas from to
+below-lowered {h} {rates} {ns} {areas} {mwh} {from} {to} s b p end e =
+    subst (λ (x : Heights). Below x ns areas from to) (sym e)
+    (record {
+      most = λ i l m.
+          of-three
+          (λ (area : ℕ).
+          getD ns i 0 ≤ heightIn h area → cond (rated rates area) (getD ns i 0) 0 < mwh → getD ns i 0 ≤ heightIn (loweredTo h rates (mwh - 1)) area)
+          (min-in (rated rates 0) (getD ns i 0) (h .pvb) mwh) (min-in (rated rates 1) (getD ns i 0) (h .tvb) mwh) (min-in (rated rates 2) (getD ns i 0) (h .avb) mwh)
+          (getD areas i 0) (s .area-most i l m) (b .most i l m) (p .before i l (omega arith));
+      few =
+          of-three (λ (area : ℕ). heightIn (loweredTo h rates (mwh - 1)) area ≤ 100000)
+          (omega (arith, min-le (rated rates 0) (h .pvb) (mwh - 1), b .few 0 (omega arith)))
+          (omega (arith, min-le (rated rates 1) (h .tvb) (mwh - 1), b .few 1 (omega arith)))
+          (omega (arith, min-le (rated rates 2) (h .avb) (mwh - 1), b .few 2 (omega arith)));
+    })
 
 -- no sale stands above 100,000 MWh
 pub below-all : {ns areas : List ℕ} {from to : ℕ} → Sales ns areas from to → Below bounded ns areas from to

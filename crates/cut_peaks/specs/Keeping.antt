@@ -1,5 +1,5 @@
 -- What is kept of a seller between two reductions, and the cuts of a reduction that are told by it. Assumes nothing.
-use Rattle.base.specs.Basics.{_≡_, Bool, true, false, cond, List, [], _∷_, ℕ, _+_, _-_, _≤_, _<_, max, length, getD, sets}
+use Rattle.base.specs.Basics.{_≡_, Bool, true, false, cond, List, [], _∷_, ℕ, _+_, _-_, _≤_, _<_, max, min, length, getD, sets}
 use Rattle.cut_tiers.specs.Tiers.{cutsOf, ratesFor, shortBy}
 use Rattle.cut_worth.specs.Rates.{lotsIn, rated}
 use Rattle.laws_sales.specs.Parts.{part}
@@ -26,6 +26,15 @@ bounded = record { pvb = 100000; tvb = 100000; avb = 100000 }
 -- the largest of those of a tier, at least 1
 abbrev pub tierHeight : Heights → List ℕ → ℕ
 tierHeight h rates = max (max (max 1 (cond (rated rates 0) (h .pvb) 0)) (cond (rated rates 1) (h .tvb) 0)) (cond (rated rates 2) (h .avb) 0)
+
+-- where those of a tier are at most an amount
+abbrev pub loweredTo : Heights → List ℕ → ℕ → Heights
+loweredTo h rates most =
+    record {
+      pvb = cond (rated rates 0) (min (h .pvb) most) (h .pvb);
+      tvb = cond (rated rates 1) (min (h .tvb) most) (h .tvb);
+      avb = cond (rated rates 2) (min (h .avb) most) (h .avb);
+    }
 
 -- the seller's position is negative in the area
 abbrev pub shortOf : Kept → ℕ → Bool

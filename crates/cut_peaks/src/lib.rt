@@ -4,10 +4,10 @@
 use units::Prices;
 ghost use mathlib.Core.Bool.{true, false, cond};
 ghost use mathlib.Core.Path.{_≡_};
-ghost use Prim.Native.Nat.{_≤_, _<_, max};
+ghost use Prim.Native.Nat.{_≤_, _<_, max, min};
 ghost use lib.Dec.{ltb};
 ghost use lib.ListN.{getD};
-ghost use Rattle.cut_peaks.specs.Keeping.{Below, bounded, Chosen, KeptFor, SameShort, sweptTo, tierHeight, tierRates};
+ghost use Rattle.cut_peaks.specs.Keeping.{Below, bounded, Chosen, KeptFor, loweredTo, SameShort, sweptTo, tierHeight, tierRates};
 ghost use Rattle.units.specs.Prices.{asPrices, InRange};
 ghost use Rattle.cut_worth.specs.Rates.{Sales, Rates};
 ghost use Rattle.cut_peaks.specs.Peaks.{amountAt, Highest, NextPeak, NoneCut, PeakCuts, Peaked};
@@ -120,6 +120,30 @@ fn tier_height(heights: Heights, rates: &[u64; 3]) -> u64
     larger(two, in_tier(heights.avb, rates[2]))
 }
 
+// The lesser of two amounts where an area has a rate; else the first.
+fn lowered_at(mwh: u64, rate: u64, most: u64) -> u64
+    ensures { λ r. ⌜ r ≡ cond (ltb 0 rate) (min mwh most) mwh ⌝ }
+{
+    if rate == 0 {
+        return mwh;
+    }
+    if mwh < most {
+        return mwh;
+    }
+    most
+}
+
+// Heights of which those of a tier's areas are at most an amount.
+fn lowered(heights: Heights, rates: &[u64; 3], most: u64) -> Heights
+    ensures { λ r. ⌜ r ≡ loweredTo heights (now (rates .entry)) most ⌝ }
+{
+    Heights {
+        pvb: lowered_at(heights.pvb, rates[0], most),
+        tvb: lowered_at(heights.tvb, rates[1], most),
+        avb: lowered_at(heights.avb, rates[2], most),
+    }
+}
+
 // The first of the highest sales in a tier, what they stand at, and amounts that no sale stands above.
 pub struct Peak {
     pub mwh: u64,
@@ -127,8 +151,8 @@ pub struct Peak {
     pub heights: Heights,
 }
 
-// The first of the highest sales from..to in the tier: at the height that is known, or where none of them stands at it, after a look
-// through all of them.
+// The first of the highest sales from..to in the tier: at the height that is known; or where none of them stands at it, one below, since
+// those that stood there have lost an MWh each; or else after a look through all of them.
 fn first_peak(
     standing: &[u64; 256],
     areas: &[u8; 256],
@@ -147,6 +171,16 @@ fn first_peak(
             mwh: height,
             place: first,
             heights: heights,
+        };
+    }
+    let lower = lowered(heights, rates, height - 1);
+    let below = tier_height(lower, rates);
+    let second = next_peak(standing, areas, rates, below, from, to);
+    if second < to {
+        return Peak {
+            mwh: below,
+            place: second,
+            heights: lower,
         };
     }
     let seen = heights_of(standing, areas, from, to);
