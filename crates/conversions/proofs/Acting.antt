@@ -4,7 +4,6 @@ use Rattle.rules.specs.Book.{Book}
 use Rattle.rules.specs.Queries.{Query}
 use Rattle.book_format.proofs.Passed.{passed}
 use Rattle.book_format.proofs.Written.{bookOf-bytesOf}
-use Rattle.book_format.specs.After.{after}
 use Rattle.book_format.specs.Book.{bookOf}
 use Rattle.book_format.specs.Questions.{bookNumber}
 use Rattle.outputs.specs.Output.{Wrote}
@@ -20,6 +19,7 @@ use Rattle.conversions.specs.Conversion.{aboutConversion, asVersion, con
 use Rattle.conversions.specs.Statements.{Alike, Convertible}
 use Rattle.conversions.proofs.Conversions.{cancellations-alike, conversions, enquiries-alike}
 use Rattle.conversions.proofs.Kept.{sound-as}
+use Rattle.rules.specs.Questions.{after}
 
 -- what the public call cites: from the number of its questions up to 26 and the contract of the inner function
 pub conversion-by : (actor : Party) (version : ℕ) (s out : List ℕ) {number result : ℕ} {left : List ℕ} → number ≡ enteringNumber actor operators s

@@ -9,7 +9,7 @@ use Rattle.run_state.proofs.Left.{continued}
 use Rattle.log_format.specs.Noted.{entryOf, noted, noting}
 
 -- results of equal totals and one book
-pub same-totals : {x y z k m n : ℕ} (b : Book) → x ≡ k → y ≡ m → z ≡ n → _≡_ {A = Result} (record { answer = ofRun x y z; book = b }) (record { answer = ofRun k m n; book = b })
+pub same-totals : {x y z k m n : ℕ} (b : Book) → x ≡ k → y ≡ m → z ≡ n → _≡_ {A = Result Book} (record { answer = ofRun x y z; book = b }) (record { answer = ofRun k m n; book = b })
 same-totals b e f g = rw (e, f, g)
 
 module _ (limits : Limits) where

@@ -1,9 +1,9 @@
 -- What the user at a place gets: its part of H, which is at most what its own balance is below 0. Assumes nothing.
-use Rattle.base.specs.Basics.{_≡_, refl, sym, ap, _∙_, Bool, true, false, not, cond, Option, none, some, List, [], _∷_, _++_, map, ℕ, zero, suc, _*_}
+use Rattle.base.specs.Basics.{_≡_, refl, sym, ap, _∙_, Bool, true, false, not, cond, List, [], _∷_, _++_, map, ℕ, zero, suc, _*_}
 use Rattle.base.specs.Basics.{_-_, _/_, _%_, _<_, _≤_, div-mul-le-self, le-of-mul-le-mul-right, mul-comm, mul-le-mul-right, mul-zero, zero-mod, arith}
 use Rattle.base.specs.Basics.{T, ltb, ℤ, pos, length, getD, replicate, lt-ltb}
 use Rattle.base.specs.Parts.{negPart}
-use Rattle.rules.specs.Questions.{refusal, decided}
+use Rattle.rules.specs.Questions.{after, refusal}
 use Rattle.shrinkage.proofs.Totals.{own-more, half-le}
 use Rattle.shrinkage.specs.Return.{Returned, total, isNegative, half, own, ownSum, shareOf, remainderOf, shares, remainders, inPlaces, nothing, given, about, returned}
 
@@ -46,13 +46,13 @@ remainder-none h s z e = ap (λ (n : ℕ). h * n % s) e ∙ ap (λ (n : ℕ). n 
 
 -- what holds of nothing, and of what a negative total returns, holds of every return
 by-way : (zs : List ℤ) (P : Returned → Type 0) → ((n : ℕ) → P (nothing n)) → (T (isNegative (total zs)) → P (given zs)) → P (returned zs)
-unfolding returned decided
+unfolding returned after
 by-way zs P empty full = go (refusal (about zs)) (isNegative (total zs)) full
   where
-    go : (o : Option ℕ) (c : Bool) → (T c → P (given zs)) → P (decided o nothing (cond c (given zs) (nothing 0)))
-    go none true k = k tt
-    go none false k = empty 0
-    go (some n) c k = empty n
+    go : (n : ℕ) (c : Bool) → (T c → P (given zs)) → P (after n nothing (cond c (given zs) (nothing 0)))
+    go zero true k = k tt
+    go zero false k = empty 0
+    go (suc n) c k = empty (suc n)
 
 module _ (zs : List ℤ) (i : ℕ) where
   -- the user's own balance, 0 past the users
