@@ -5,7 +5,8 @@ use Rattle.fields.specs.Field.{AllBytes}
 use Rattle.rules.specs.Bearers.{borne}
 use Rattle.rules.specs.Book.{Book, find}
 use Rattle.rules.specs.Calls.{reduction}
-use Rattle.rules.specs.Levels.{Limits, afternoonLevel, holding, sells}
+use Rattle.rules.specs.Day.{callDue, printedLevel, state}
+use Rattle.rules.specs.Levels.{Limits, afternoonLevel, buys, calledIn, flagged, holding, morningLevel, partyTo, sells, shortOfCover}
 use Rattle.rules.specs.Queries.{Query, Reply, aboutQuery, found, onlyNumber, replyAfter}
 use Rattle.rules.specs.Questions.{Question, after, firstOf, refusal, versionKnown}
 use Rattle.rules.specs.Reduction.{eligible, target}
@@ -27,6 +28,7 @@ use Rattle.conversions.specs.Statements.{Alike, Back, Conversions, Conve
 use Rattle.conversions.proofs.Acts.{act-alike, outcomeAs}
 use Rattle.conversions.proofs.Alike.{about-alike, found-alike, query-alike}
 use Rattle.conversions.proofs.Kept.{own-kept, sound-as, upward-kept}
+use Rattle.user_levels.specs.Levels.{AllLevels, allLevelsAfter, levelsAfter, levelsIn, levelsOf, noLevels, userRows}
 
 -- a whole cancellation on a book as a version: its questions and its answer
 asked-alike : (limits : Limits) (v : ℕ) (b : Book) (id tries : ℕ) → aboutCancellation limits (asVersion v b) id tries ≡ aboutCancellation limits b id tries
@@ -112,7 +114,7 @@ module _ {v : ℕ} {s : List ℕ} (c : Convertible v s) where
   unfolding converted
   number-there = written-number (asVersion v b) sound-there
 
-  book-there : bookOf t ≡ asVersion v b
+  pub book-there : bookOf t ≡ asVersion v b
   unfolding converted
   book-there = bookOf-bytesOf (asVersion v b) sound-there
 
@@ -162,7 +164,7 @@ module _ {v : ℕ} {s : List ℕ} (c : Convertible v s) where
         log = there .log ∙ ap (λ (x : Outcome Book). x .log) e ∙ sym (here .log);
       }
 
-  -- a query and a whole cancellation after any opening number, by the book that the bytes hold; the date and the figures are the same
+  -- a query, the levels of all users and a whole cancellation after any opening number, by the book that the bytes hold; the date and the figures are the same
   replied : ℕ → Setting → Query → Book → Reply
   replied n g q x = after (firstOf n (storeNumber (g .store) (x .header .date))) onlyNumber (after (refusal (aboutQuery x q)) onlyNumber (found (limitsOn g x) x q))
 
@@ -172,6 +174,13 @@ module _ {v : ℕ} {s : List ℕ} (c : Convertible v s) where
       let limits = limitsOn g b in
       ap (replied n g q) book-there
       ∙ ap₂ (λ (qs : List Question) (r : Reply). after (opening n g s) onlyNumber (after (refusal qs) onlyNumber r)) (query-alike limits v b q) (found-alike limits v b q)
+
+  levelled : ℕ → Setting → Book → AllLevels
+  levelled n g x = after (firstOf n (storeNumber (g .store) (x .header .date))) noLevels (levelsIn (limitsOn g x) x)
+
+  pub levels-alike : (n : ℕ) (g : Setting) → allLevelsAfter n g t ≡ allLevelsAfter n g s
+  unfolding allLevelsAfter levelsAfter openingIn levelled limitsOn asVersion levelsIn userRows levelsOf state printedLevel callDue shortOfCover calledIn flagged afternoonLevel morningLevel holding borne partyTo sells buys
+  levels-alike n g = ap (levelled n g) book-there
 
   searched : ℕ → Setting → ℕ → ℕ → Book → Cancellation
   searched n g id tries x =
@@ -210,5 +219,6 @@ conversions =
       round = λ v s c. round c;
       requests = λ v s c store a. requests-alike c store a;
       enquiries = λ v s c g q. ap (λ (n : ℕ). enquiryAfter n g (converted v s) q) (same-number c) ∙ enquiries-alike c (bookNumber s) g q;
+      levels = λ v s c g. ap (λ (n : ℕ). allLevelsAfter n g (converted v s)) (same-number c) ∙ levels-alike c (bookNumber s) g;
       cancellations = λ v s c g id tries. ap (λ (n : ℕ). cancellationIn n g (converted v s) id tries) (same-number c) ∙ cancellations-alike c (bookNumber s) g id tries;
     }

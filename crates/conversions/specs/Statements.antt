@@ -58,5 +58,7 @@ pub record Conversions : Type 0 where
       → Alike version (request (actOf store none a) (converted version s)) (request (actOf store none a) s)
   -- every level, warning and shown record
   pub enquiries : (version : ℕ) (s : List ℕ) → Convertible version s → (g : Setting) (q : Query) → enquiry g (converted version s) q ≡ enquiry g s q
+  -- the levels and the states of all users
+  pub levels : (version : ℕ) (s : List ℕ) → Convertible version s → (g : Setting) → allLevels g (converted version s) ≡ allLevels g s
   -- every whole cancellation
   pub cancellations : (version : ℕ) (s : List ℕ) → Convertible version s → (g : Setting) (id tries : ℕ) → cancellation g (converted version s) id tries ≡ cancellation g s id tries
