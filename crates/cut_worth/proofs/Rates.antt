@@ -13,7 +13,7 @@ use Rattle.laws_sales.proofs.Lots.{one-worth-le}
 use Rattle.laws_sales.specs.Lots.{lotsOf}
 
 -- what is outside the tier has no worth at its rate
-weighted : (n rate : ℕ) → cond (ltb 0 rate) n 0 * rate ≡ n * rate
+pub weighted : (n rate : ℕ) → cond (ltb 0 rate) n 0 * rate ≡ n * rate
 weighted n rate =
     by-test (λ (m : ℕ). m * rate ≡ n * rate) (ltb 0 rate) (λ t. refl)
     (λ f. let z : rate ≡ 0 = omega (arith, nltb→le 0 rate f) in ap (λ (k : ℕ). 0 * k) z ∙ sym (ap (λ (k : ℕ). n * k) z ∙ mul-zero n))

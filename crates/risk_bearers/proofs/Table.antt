@@ -18,7 +18,8 @@ use Rattle.fields.specs.Field.{field}
 use Rattle.rules.specs.Areas.{managersIn}
 use Rattle.rules.specs.Bearers.{bearer}
 use Rattle.rules.specs.Book.{User, managerIn, nobody}
-use Rattle.book_questions.proofs.Loops.{Listed, listed-end, listed-start, listed-turn, rest-set}
+use Rattle.fields.proofs.Sets.{rest-set}
+use Rattle.book_questions.proofs.Loops.{Listed, listed-end, listed-start, listed-turn}
 use Rattle.risk_bearers.proofs.Places.{place-is}
 use Rattle.risk_bearers.specs.Bearers.{BearersOf, IdsOf}
 
