@@ -2,6 +2,7 @@
 use Rattle.base.specs.Basics.{_≡_, refl, sym, ap, subst, _∙_, inl, inr, Bool, true, false, not, _||_, List, ℕ, zero, suc, _*_, _-_, _≤_, _<_, arith}
 use Rattle.base.specs.Basics.{T, eqb, length, getD, ext-getD, length-sets, sets}
 use Rattle.base.proofs.Linear.{by-order}
+use Rattle.base.proofs.Tests.{or-true}
 use Rattle.cut_shares.proofs.Cases.{tier-none}
 use Rattle.cut_shares.specs.Cuts.{added}
 use Rattle.cut_tiers.proofs.After.{cuts-of-same}
@@ -100,13 +101,9 @@ module _ (f : Prices) (range : InRange f) (short : ℕ → Bool) (asked : ℕ) {
   tier-filled false z v w h cs e = one-tier f range short asked s n refl e v w h
   tier-filled true z v w h cs e =
       let one = z refl in
-      let nothing : (eqb asked 0 || eqb 0 0) ≡ true = either (eqb asked 0) in
+      let nothing : (eqb asked 0 || eqb 0 0) ≡ true = or-true (eqb asked 0) in
       let left : asked ≡ asked - 0 = omega arith in
       both-tiers f range short asked s n refl (tier-none s (none-untouched (ratesFor f short) areas n) asked 0 (sym one) nothing) 0 (sym one) refl left e
-    where
-      either : (t : Bool) → (t || true) ≡ true
-      either true = refl
-      either false = refl
 
 -- cuts that lie in a part, stored in an array of none
 cuts-stored : {cs₀ cs : List ℕ} (from to : ℕ) → NoneCut cs₀ → length cs ≡ 256 → from ≤ to → to ≤ 256 → ((i : ℕ) → i < from → getD cs i 0 ≡ 0) → ((i : ℕ) → to ≤ i → getD cs i 0 ≡ 0)

@@ -4,7 +4,7 @@ use Rattle.base.specs.Basics.{_≡_, refl, ap, ap₂, fun-ext, subst, _∙_, Bo
 use Rattle.base.specs.Basics.{_∷_, map, List·Memᴰ, List·Memᴰ·cases-cons, List·Memᴰ·not-nil, ℕ, zero, suc, _+_, _-_, _<_, arith, T, eqb, leb, ltb, lt→ltb}
 use Rattle.base.specs.Basics.{leb→le, le→leb, pos, length-map, le-ltb, ⊎-elim, T-not}
 use Rattle.base.specs.Lists.{all, any}
-use Rattle.base.proofs.Tests.{all-map, and-false, and-i, and-l, and-r, same-test, by-case, fails}
+use Rattle.base.proofs.Tests.{all-map, and-false, and-true, and-i, and-l, and-r, same-test, by-case, fails}
 use Rattle.laws.proofs.{Run.next-none, Run.eligible-cuttable, Sound.accept, Sound.none-refuses, Sound.sound, Users.map-sum, Fuel.run-stops}
 use Rattle.laws_deposits.specs.Deposits.{DepositsAccepted, DepositsLeast, DepositsSuffice, deposited, depositsValid, lacking, withDeposits}
 use Rattle.laws.specs.{Sound.Sound, Statements.AllCovered}
@@ -83,10 +83,6 @@ module _ (amounts : User → ℕ) where
       short-deposited = rw (called-same, level-same)
 
 -- ---- the next user that is reduced, after the deposits
-
-and-true : (a : Bool) → (a && true) ≡ a
-and-true true = refl
-and-true false = refl
 
 -- an assigned guarantee with what it lacks to a level is not below it
 reaches : (level assigned : ℕ) (c : Bool) → ltb assigned level ≡ c → ltb (assigned + cond c (level - assigned) 0) level ≡ false

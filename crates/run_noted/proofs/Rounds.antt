@@ -25,7 +25,7 @@ use Rattle.rules.specs.Book.{Book, Party, User}
 use Rattle.rules.specs.Calls.{Answer, Result, nextReduced, ofRun, runFor}
 use Rattle.rules.specs.Levels.{Limits}
 use Rattle.rules.specs.Reduction.{cuts, target}
-use Rattle.run_state.proofs.Left.{continued, next-nobody}
+use Rattle.run_state.proofs.Left.{continued, next-nobody, same-totals}
 use Rattle.base.proofs.Tests.{by-case}
 use Rattle.risk_user.proofs.Borne.{members-borne, party-borne}
 use Rattle.run_state.proofs.Stays.{Alike, Stays, alike-borne, party-stays, stays, users-many}
@@ -40,7 +40,7 @@ use Rattle.run_turns.specs.Turns.{RunTo, Turned}
 use Rattle.log_format.specs.Noted.{entryOf, noted}
 use Rattle.log_entries.proofs.Reductions.{reduction-entered}
 use Rattle.log_entries.specs.Entries.{EntriesIn, Notable, NotedAt}
-use Rattle.run_noted.proofs.Budget.{budget-spent, budget-stops, budget-turn, noted-spent, noted-stops, noted-turn, same-totals}
+use Rattle.run_noted.proofs.Budget.{budget-spent, budget-stops, budget-turn, noted-spent, noted-stops, noted-turn}
 use Rattle.run_noted.specs.Noted.{NotedBy, OriginsIn}
 
 -- ---- the entry of a reduction

@@ -69,7 +69,7 @@ continued r m w rest =
     record { answer = ofRun (r + rest .answer .reductions) (m + rest .answer .mwh) (w + rest .answer .worth); book = rest .book }
 
 -- results of equal totals and one book
-same-totals : {x y z k m n : ℕ} (b : Book) → x ≡ k → y ≡ m → z ≡ n → _≡_ {A = Result Book} (record { answer = ofRun x y z; book = b }) (record { answer = ofRun k m n; book = b })
+pub same-totals : {x y z k m n : ℕ} (b : Book) → x ≡ k → y ≡ m → z ≡ n → _≡_ {A = Result Book} (record { answer = ofRun x y z; book = b }) (record { answer = ofRun k m n; book = b })
 same-totals b e f g = rw (e, f, g)
 
 -- a run of the book o has come to b, with totals r, m and w: they and what is left of b are its whole run, and each is bounded by what can no longer be cut
