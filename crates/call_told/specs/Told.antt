@@ -1,20 +1,10 @@
--- The answers of the flag and of the count of trades, and a trade by ordinal, after the opening questions, by their number. Assumes nothing.
-use Rattle.base.specs.Basics.{_≡_, false, List, [], ℕ, _+_}
+-- The user that flag and trades are told of, and a trade by ordinal, after the opening questions, by their number. Assumes nothing.
+use Rattle.base.specs.Basics.{_≡_, List, ℕ, _+_}
 use Rattle.book_format.specs.Book.{bookOf}
 use Rattle.call_entry.specs.Entered.{Found}
-use Rattle.rights.specs.Trades.{Told, aboutUser, toldAfter, tradeOf, tradeShownAt}
+use Rattle.rights.specs.Trades.{aboutUser, toldAfter, tradeOf, tradeShownAt}
 use Rattle.rules.specs.Levels.{Limits}
 use Rattle.rules.specs.Questions.{firstOf, refusal}
-use Rattle.call_told.specs.declared.CountAnswer.{CountAnswer}
-use Rattle.call_told.specs.declared.FlagAnswer.{FlagAnswer}
-
--- ---- answers
-
-unfoldable pub flagTold : FlagAnswer → Told
-flagTold r = record { number = r .number; flagged = r .flagged; count = 0; part = [] }
-
-unfoldable pub countTold : CountAnswer → Told
-countTold r = record { number = r .number; flagged = false; count = r .count; part = [] }
 
 -- ---- 8 and 9
 
