@@ -1,6 +1,6 @@
 -- The front of an array: what its first n elements stand for, and tests that all elements of a list pass. Assumes nothing.
 use Rattle.base.specs.Basics.{Bool, List, [], _∷_, map, _≡_, refl, ap, _∙_, ℕ, zero, suc, _≤_, _<_, not-suc-le-zero, le-of-suc-le-suc, T, length, take}
-use Rattle.base.specs.Basics.{getD, length-map, List·getD-map, getD-take, length-take-le}
+use Rattle.base.specs.Basics.{getD, replicate, length-map, List·getD-map, getD-take, length-take-le}
 use Rattle.base.proofs.Tests.{and-l, and-r}
 use Rattle.base.specs.Lists.{all}
 
@@ -25,6 +25,12 @@ module _ {A : Type 0} where
   getD-inside [] i d e h = absurd (not-suc-le-zero h)
   getD-inside (x ∷ xs) zero d e h = refl
   getD-inside (x ∷ xs) (suc i) d e h = getD-inside xs i d e (le-of-suc-le-suc h)
+
+  -- copies of what is read past the end have it everywhere
+  pub none-past : (n i : ℕ) (d : A) → getD (replicate n d) i d ≡ d
+  none-past zero i d = refl
+  none-past (suc n) zero d = refl
+  none-past (suc n) (suc i) d = none-past n i d
 
   -- a test that all elements pass holds at each place
   pub all-at : (p : A → Bool) (xs : List A) → T (all p xs) → (i : ℕ) (d : A) → i < length xs → T (p (getD xs i d))

@@ -1,6 +1,8 @@
 -- Laws of integers and of sums
 pub mod Linear
 pub mod Sums
+-- of what the machine keeps of a signed number
+pub mod Signs
 -- of tests
 pub mod Tests
 -- of what is stored at a place of a list, and of a loop that stores place by place

@@ -2,6 +2,7 @@
 use Rattle.base.specs.Basics.{_≡_, refl, sym, ap, ap₂, Bool, true, false, not, cond, _&&_, _||_, List, [], _∷_, _++_, map, ℕ, zero, suc, _+_, _<_}
 use Rattle.base.specs.Basics.{arith, T, eqb, eqb→eq, eqb-refl, ℤ, _+ℤ_}
 use Rattle.base.specs.{Sums.sum, Sums.sumℤ, Lists.all}
+pub use mathlib.Core.Bool.{and-assoc, and-false, and-true, or-assoc, or-true}
 
 pub and-l : (a b : Bool) → T (a && b) → T a
 and-l true b h = tt
@@ -36,10 +37,6 @@ or-by false b c f h = f h
 pub or-none : (a b : Bool) → T (not (a || b)) → T (not a) × T (not b)
 or-none true b h = absurd h
 or-none false b h = (tt, h)
-
-pub and-false : (a : Bool) → (a && false) ≡ false
-and-false true = refl
-and-false false = refl
 
 -- a value by a test: what holds of each of the two in its case holds of it
 pub by-test {ℓ} : {A : Type 0} (P : A → Type ℓ) (c : Bool) {x y : A} → (T c → P x) → (T (not c) → P y) → P (cond c x y)

@@ -1,8 +1,8 @@
 -- The form of an accepted book is accepted and yields that book, and bytes that are accepted are the form of the book that they yield. Assumes nothing.
-use Rattle.base.specs.Basics.{_≡_, refl, sym, ap, _∙_, Bool, true, false, _&&_, none, some, List, [], ℕ, _<_, _≤_, arith, T, eqb, eqb→eq, leb, leb→le}
+use Rattle.base.specs.Basics.{_≡_, refl, sym, ap, _∙_, Bool, true, false, _&&_, List, [], ℕ, _<_, _≤_, arith, T, eqb, eqb→eq, leb, leb→le}
 use Rattle.base.specs.Basics.{le→leb, length, lt-leb}
 use Rattle.base.proofs.Tests.{and-i, and-l, and-r, eqb-of, holds}
-use Rattle.rules.specs.Questions.{decided, refusal}
+use Rattle.rules.specs.Questions.{after, refusal}
 use Rattle.laws.proofs.Refusals.{refusal-next, yes-first}
 use Rattle.fields.specs.Field.{AllBytes}
 use Rattle.book_format.specs.Book.{lengthBy, lengthOf, mark, markOf, tradeCount, tradesAt, userAt, userCount}
@@ -103,30 +103,30 @@ module _ (f : List ℕ) (b : AllBytes f) (h : T (yields f)) where
 -- ---- the two calls
 
 -- where there is room, nothing is left to refuse
-pub room-given : (bytes out : List ℕ) → length bytes ≤ length out → refusal (aboutRoom bytes out) ≡ none
-unfolding aboutRoom refusal
+pub room-given : (bytes out : List ℕ) → length bytes ≤ length out → refusal (aboutRoom bytes out) ≡ 0
+unfolding aboutRoom refusal after
 room-given bytes out k = yes-first 30 (leb (length bytes) (length out)) [] (le→leb (length bytes) (length out) k)
 
 -- where there is none, 30 is
-pub no-room : (bytes out : List ℕ) → length out < length bytes → refusal (aboutRoom bytes out) ≡ some 30
-unfolding aboutRoom refusal
+pub no-room : (bytes out : List ℕ) → length out < length bytes → refusal (aboutRoom bytes out) ≡ 30
+unfolding aboutRoom refusal after
 no-room bytes out h = rw (lt-leb (length bytes) (length out) h)
 
 module _ (s out : List ℕ) (b : AllBytes s) (h : bookNumber s ≡ 0) (k : length s ≤ length out) where
   book-stored : stored s out ≡ accepted (formOf s) out
-  unfolding stored written decided
+  unfolding stored written after
   book-stored =
       rw (refusal-next (aboutBytes s) (aboutRoom (formOf s) out) (book-passed s h), room-given (formOf s) out (rw (form-long s b h) k))
 
   book-given : restored (formOf s) out ≡ accepted s out
-  unfolding restored written decided aboutForm
+  unfolding restored written after aboutForm
   book-given =
       rw (yes-first 29 (yields (formOf s)) (aboutRoom (bookFrom (formOf s)) out) (form-yields s b h), form-back s b h, room-given s out k)
 
 -- a form is asked for its book, and then the output for room
 module _ (f out : List ℕ) where
   form-refused : yields f ≡ false → restored f out ≡ refused out 29
-  unfolding restored written aboutForm refusal decided
+  unfolding restored written aboutForm refusal after
   form-refused e = rw e
 
   module _ (e : yields f ≡ true) where
@@ -140,7 +140,7 @@ module _ (f out : List ℕ) where
     room-asked = yes-first 29 (yields f) (aboutRoom (bookFrom f) out) (holds e)
 
     form-short : length out < length f → restored f out ≡ refused out 30
-    unfolding restored written decided
+    unfolding restored written after
     form-short k = rw (room-asked, no-room (bookFrom f) out (rw length-bookFrom k))
 
 pub field-wise : FieldWise

@@ -1,20 +1,11 @@
 -- The three parts of rearranged bytes written one after the other. Assumes nothing.
-use Rattle.base.specs.Basics.{_≡_, sym, _∙_, Bool, List, _++_, append-nil, ℕ, _+_, _*_, _≤_, arith, length, take, drop, sets, drop-length, take-all}
-use Rattle.base.specs.Basics.{take-length}
+use Rattle.base.specs.Basics.{_≡_, sym, _∙_, Bool, List, ℕ, _+_, _*_, arith, length, take, drop, sets, take-all}
 use Rattle.fields.specs.Field.{setField}
-use Rattle.fields.proofs.Sets.{part-sets, sets-three}
+use Rattle.fields.proofs.Sets.{sets-three}
 use Rattle.columns.specs.Columns.{arranged}
 use Rattle.book_format.specs.Book.{headerSize, tradeCount, tradeSize, tradesAt, userCount, userSize, versionOf}
 use Rattle.book_columns.specs.Form.{Laid, headerPart, rearranged, tradeFields, tradesPart, userFields, usersPart}
 use Rattle.book_columns.proofs.Rearranged.{length-header, length-tradesPart, length-trades, length-users, trades-begin}
-
--- bytes stored over a part of their length
-pub all-copied : (s out : List ℕ) → length out ≡ length s → take (length s) s ++ drop (length s) out ≡ s
-all-copied s out e = rw (take-length, ← e, drop-length, append-nil)
-
--- the front of bytes, lent and come back as others of its length
-pub front-set : {part : List ℕ} (k : ℕ) (l v : List ℕ) → length v ≡ k → k ≤ length l → part ≡ v → part ++ drop k l ≡ sets l 0 v
-front-set k l v n h e = rw e (part-sets l v 0 k n (omega (arith, h)))
 
 -- header, users and trades are all of the bytes
 pub parts-long : {s : List ℕ} {version n m users : ℕ} → Laid s → version ≡ versionOf s → n ≡ userCount s → m ≡ tradeCount s → users ≡ headerSize version

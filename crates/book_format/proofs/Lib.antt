@@ -1,7 +1,6 @@
 -- What follows for a book in bytes: what the questions tell,
 pub mod Formed
 pub mod Passed
-pub mod After
 -- read and written again, written and read again,
 pub mod Round
 pub mod Written

@@ -1,5 +1,5 @@
 -- What the questions 1 to 7 tell of bytes: their form, their zero bytes, and that the book they hold is accepted. Assumes nothing.
-use Rattle.base.specs.Basics.{_≡_, _&&_, none, List, suc, zero, ℕ, T, eqb, eqb→eq, leb, le→leb, drop, length, take}
+use Rattle.base.specs.Basics.{_≡_, _&&_, List, suc, zero, ℕ, T, eqb, eqb→eq, leb, le→leb, drop, length, take}
 use Rattle.fields.proofs.Records.{length-recordsOf}
 use Rattle.fields.specs.Layout.{EveryPart, recordsOf}
 use Rattle.book_format.proofs.Formed.{book-passed, formed-of}
@@ -46,15 +46,15 @@ version-valid : (s : List ℕ) → Formed s → T (versionValid (bookOf s))
 unfolding versionValid bookOf
 version-valid s f = f .version
 
-pub passed-of : (s : List ℕ) → refusal (aboutBytes s) ≡ none → Passed s
+pub passed-of : (s : List ℕ) → refusal (aboutBytes s) ≡ 0 → Passed s
 unfolding aboutBytes aboutFields userZerosValid tradeZerosValid usersValid bookOf
 passed-of s h =
     let e = append-yes (aboutForm s) (aboutFields s) h in
     let f = formed-of s (e .0) in
-    let q4 = first-yes _ _ (e .1) in
-    let q5 = first-yes _ _ (q4 .1) in
-    let q6 = first-yes _ _ (q5 .1) in
-    let q7 = first-yes _ _ (q6 .1) in
+    let q4 = first-yes _ _ (e .1) tt in
+    let q5 = first-yes _ _ (q4 .1) tt in
+    let q6 = first-yes _ _ (q5 .1) tt in
+    let q7 = first-yes _ _ (q6 .1) tt in
     let uz = userZerosValid s in
     let ur = idsRise 0 (usersOf s) in
     let uv = all userValid (usersOf s) in

@@ -20,7 +20,7 @@ use Rattle.book_records.proofs.Trades.{all-bytes-tradeBytes, length-tradeBytes,
 use Rattle.book_records.proofs.Users.{all-bytes-recordBytes, user-of-record}
 use Rattle.book_records.specs.{Trade.FitsTrade, Trade.tradeBytes, Trade.tradeOf, Trade.tradeZeros, User.FitsRecord, User.userOf, User.userZeros}
 use Rattle.rules.specs.{Areas.Prices, Areas.managersIn, Areas.sellingIn, Book.Book, Book.Trade, Book.User, Calendar.realDay, Calendar.yearOf}
-use Rattle.rules.specs.Questions.{positionsValid, tradeValid, userValid, countsValid, groupsValid, headerValid, idsRise, numberOf, refusal, sellingMost}
+use Rattle.rules.specs.Questions.{positionsValid, tradeValid, userValid, after, countsValid, groupsValid, headerValid, idsRise, refusal, sellingMost}
 use Rattle.rules.specs.Questions.{usersValid, versionKnown, versionValid}
 use Rattle.base.specs.Lists.{all}
 
@@ -372,8 +372,8 @@ module _ (b : Book) (s : Sound b) where
       and-i (usersValid (b .users)) (groupsValid b) (and-i (idsRise 0 (b .users)) (all userValid (b .users)) (s .ids) (s .users)) (s .groups)
 
   -- what was written passes every question
-  pub none-refuses-written : refusal (aboutBytes (bytesOf b)) ≡ none
-  unfolding aboutBytes aboutForm refusal
+  pub none-refuses-written : refusal (aboutBytes (bytesOf b)) ≡ 0
+  unfolding aboutBytes aboutForm refusal after
   none-refuses-written =
       rw (
         yes-first 1 _ _ marked-written,
@@ -387,5 +387,5 @@ module _ (b : Book) (s : Sound b) where
       )
 
   pub written-number : bookNumber (bytesOf b) ≡ 0
-  unfolding bookNumber numberOf
-  written-number = ap numberOf none-refuses-written
+  unfolding bookNumber
+  written-number = none-refuses-written

@@ -5,7 +5,7 @@ use Rattle.book_format.specs.Book.{headerSize, userSize, tradeSize, mark
 use Rattle.book_records.specs.Trade.{tradeZeros}
 use Rattle.book_records.specs.User.{userZeros}
 use Rattle.base.specs.Lists.{all}
-use Rattle.rules.specs.Questions.{Question, refusal, numberOf, versionKnown, groupsValid, headerValid, usersValid, tradeValid, positionsValid}
+use Rattle.rules.specs.Questions.{Question, refusal, versionKnown, groupsValid, headerValid, usersValid, tradeValid, positionsValid}
 
 -- 1: "At least 32 bytes, starting with the mark?"
 unfoldable pub marked : List ℕ → Bool
@@ -54,10 +54,10 @@ aboutBytes s = aboutForm s ++ aboutFields s
 
 -- the number of the first that is answered by no, 0 where there is none
 unfoldable pub formNumber : List ℕ → ℕ
-formNumber s = numberOf (refusal (aboutForm s))
+formNumber s = refusal (aboutForm s)
 
 unfoldable pub bookNumber : List ℕ → ℕ
-bookNumber s = numberOf (refusal (aboutBytes s))
+bookNumber s = refusal (aboutBytes s)
 
 -- bytes that pass 1 to 3, as facts
 pub record Formed (s : List ℕ) : Type 0 where

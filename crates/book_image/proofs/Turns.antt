@@ -1,7 +1,7 @@
 -- Parts copied whole, and the loop that makes a field 0 in each record: its start, a turn and its end. Assumes nothing.
 use Rattle.base.specs.Basics.{_≡_, refl, sym, ap, ap₂, _∙_, List, _++_, append-assoc, append-nil, ℕ, zero, suc, _+_, _-_, _*_, _<_, _≤_, mul-zero}
 use Rattle.base.specs.Basics.{mul-suc, sub-zero, zero-add, arith, length, take, drop, length-drop, take-append-drop, sets, length-sets, drop-at}
-use Rattle.base.specs.Basics.{drop-drop, take-at, take-add, take-length, drop-length, length-take-le, take-append-le, drop-append-le}
+use Rattle.base.specs.Basics.{drop-drop, take-at, take-add, take-length, length-take-le, take-append-le, drop-append-le}
 use borrow.Rule.Slice.PartMut.{putMid}
 use Rattle.fields.specs.Field.{setField, toBytes, AllBytes}
 use Rattle.fields.specs.Layout.{recordsOf, bytesOfRecords}
@@ -13,14 +13,6 @@ use Rattle.book_image.specs.Zeroed.{zeroedRecords}
 use Rattle.book_image.proofs.Fitted.{fitted-same, length-fitted, length-refitted, refitted-same}
 
 -- ---- parts
-
--- bytes stored over a part of their length
-pub all-copied : (s out : List ℕ) → length out ≡ length s → take (length s) s ++ drop (length s) out ≡ s
-all-copied s out e = rw (take-length, ← e, drop-length, append-nil)
-
--- the front of bytes, lent and come back as others of its length
-pub front-set : {part : List ℕ} (k : ℕ) (l v : List ℕ) → length v ≡ k → k ≤ length l → part ≡ v → part ++ drop k l ≡ sets l 0 v
-front-set k l v n h e = rw e (part-sets l v 0 k n (omega (arith, h)))
 
 -- a part from a to a + k, lent and come back as others of its length
 part-set : {part : List ℕ} (a k : ℕ) (l v : List ℕ) → length v ≡ k → a + k ≤ length l → part ≡ v → putMid a (a + k - a) l part ≡ sets l a v

@@ -7,10 +7,10 @@ use Rattle.fields.proofs.Field.{all-bytes-take, field-lt, length-toBytes}
 use Rattle.fields.proofs.Pack.{length-fieldsAt, pack-fieldsAt}
 use Rattle.fields.proofs.Sets.{part-sets, sets-left}
 use Rattle.units.proofs.TwosComplement.{bitsOf-signedOf}
-use Rattle.book_records.specs.User.{alone, amountWidths, managerBytes, managerValues, managerWidths, managersAt, recordBytes, recordSize, userBytes, userOf, userValues, userWidths}
+use Rattle.book_records.specs.User.{alone, amountWidths, recordBytes, recordSize, userBytes, userOf, userValues, userWidths}
 use Rattle.book_records.specs.Trade.{tradeOf, tradeWidths, tradeValues, tradeBytes}
 use Rattle.book_records.proofs.Amounts.{amountValues-amountsAt}
-use Rattle.book_records.proofs.Users.{user-of-front}
+use Rattle.book_records.proofs.Users.{manager-bytes-of, user-of-front}
 use Rattle.rules.specs.Areas.{managersIn}
 use Rattle.book_format.specs.Book.{userRecord, userSize}
 use Rattle.book_format.proofs.Offsets.{user-range}
@@ -48,11 +48,6 @@ module _ (c : List ℕ) (b : AllBytes c) where
   unfolding tradeBytes tradeWidths tradeValues tradeOf size fieldsAt
   trade-zeroed l = sym (zeroed (4 ∷ 4 ∷ 1 ∷ 1 ∷ 1 ∷ []) (4 ∷ 4 ∷ []) 1 c l b)
 
--- the managers of a record of 68 bytes stand behind the others
-manager-bytes : (c : List ℕ) → length c ≡ 68 → AllBytes c → managerBytes (managersAt 56 c) ≡ drop 56 c
-unfolding managerBytes managerWidths managerValues managersAt fieldsAt size
-manager-bytes c l b = pack-fieldsAt managerWidths 56 c (omega arith) b ∙ take-all 12 (drop 56 c) (rw length-drop (omega arith))
-
 -- the first 56 bytes of a record are written from its user
 front-zeroed : (c : List ℕ) → AllBytes c → 56 ≤ length c → setField 3 5 0 (take 56 c) ≡ userBytes (userOf c)
 unfolding alone userBytes userValues
@@ -66,7 +61,7 @@ record-zeroed true c l b =
     let n = length-take-le 56 c (omega (arith, l)) in
     ap (λ (x : List ℕ). sets x 5 (toBytes 3 0)) (sym (take-append-drop 56 c))
     ∙ sets-left (toBytes 3 0) (take 56 c) (drop 56 c) 5 (omega (arith, n, length-toBytes 3 0))
-    ∙ ap₂ (λ (x y : List ℕ). x ++ y) (front-zeroed c b (omega (arith, l))) (sym (manager-bytes c l b))
+    ∙ ap₂ (λ (x y : List ℕ). x ++ y) (front-zeroed c b (omega (arith, l))) (sym (manager-bytes-of c l b))
 record-zeroed false c l b = user-zeroed c b l ∙ sym (append-nil (userBytes (userOf c)))
 
 -- a user's record in an image, as the record of a version

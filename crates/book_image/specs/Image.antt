@@ -1,7 +1,7 @@
 -- An image is the fields of a book in 9,512 bytes, whatever its version and counts: a header of 40 bytes, then 64 users of 68 bytes and 256
 -- trades in the book's format. Where the parts of an image stand is said here alone. Assumes nothing.
 use Rattle.base.specs.Basics.{_≡_, List, _++_, ℕ, _+_, _-_, _*_, length, take, drop, replicate}
-use Rattle.rules.specs.Questions.{refusal, decided}
+use Rattle.rules.specs.Questions.{after, refusal}
 use Rattle.book_format.specs.Book.{versionOf, userCount, headerSize, tradesAt, userSize}
 use Rattle.book_format.specs.Questions.{aboutBytes, bookNumber}
 use Rattle.book_image.specs.Fitted.{refitted}
@@ -48,7 +48,7 @@ imageOf s = imageHeader s ++ (imageUsers s ++ imageTrades s)
 
 -- a refusal returns "every other field 0"
 unfoldable pub readImage : List ℕ → List ℕ
-readImage s = decided (refusal (aboutBytes s)) (λ n. replicate imageSize 0) (imageOf s)
+readImage s = after (refusal (aboutBytes s)) (λ n. replicate imageSize 0) (imageOf s)
 
 -- bytes that were asked the questions 1 to 7: the number, and the whole image
 pub record ImageRead (s : List ℕ) (number : ℕ) (image : List ℕ) : Type 0 where

@@ -1,5 +1,5 @@
 -- Ids that rise: those of users do where the rules' test says so; and the place of an id among them. Assumes nothing.
-use Rattle.base.specs.Basics.{_≡_, refl, ap, _∙_, Bool, true, false, cond, List, [], _∷_, ℕ, zero, suc, _<_, arith, T, eqb, ltb, ltb→lt, length, getD}
+use Rattle.base.specs.Basics.{_≡_, refl, ap, _∙_, Bool, true, false, cond, List, [], _∷_, ℕ, zero, suc, _<_, arith, T, eqb, ltb, ltb→lt, length, getD, length-map}
 use Rattle.base.specs.Basics.{eq-eqb, ne-eqb, eqb-true}
 use Rattle.rules.specs.Book.{User}
 use Rattle.rules.specs.Questions.{idsRise}
@@ -7,6 +7,10 @@ use Rattle.base.proofs.Tests.{and-l, and-r}
 use Rattle.book_parties.specs.Ids.{idsOf, placeIn, Rising}
 
 -- ---- the ids of users
+
+pub length-ids : (us : List User) → length (idsOf us) ≡ length us
+unfolding idsOf
+length-ids us = length-map us (λ (u : User). u .party .id)
 
 module _ (u : User) (us : List User) (last : ℕ) (h : T (idsRise last (u ∷ us))) where
   -- the first is above the last, and those after it rise from there

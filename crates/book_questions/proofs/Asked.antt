@@ -1,11 +1,11 @@
 -- The number that the answers to the questions 4 to 7 give, of users and trades and of bytes. Assumes nothing.
-use Rattle.base.specs.Basics.{_≡_, refl, sym, ap, subst, _∙_, Bool, false, true, cond, _&&_, none, some, List, ℕ, _+_, _-_, _≤_, arith, T, eqb, drop}
+use Rattle.base.specs.Basics.{_≡_, refl, sym, ap, subst, _∙_, Bool, false, true, cond, _&&_, some, List, ℕ, _+_, _-_, _≤_, arith, T, eqb, drop}
 use Rattle.base.specs.Basics.{length, length-drop, take, drop-drop, take-all}
 use Rattle.rules.specs.Areas.{Prices}
 use Rattle.rules.specs.Book.{User, Trade}
 use Rattle.base.specs.Lists.{all}
 use Rattle.rules.specs.Levels.{Limits}
-use Rattle.rules.specs.Questions.{groupsValid, headerValid, managersValid, numberOf, positionsValid, refusal, tradeValid, usersValid}
+use Rattle.rules.specs.Questions.{after, firstOf, groupsValid, headerValid, managersValid, positionsValid, refusal, tradeValid, usersValid}
 use Rattle.base.proofs.Tests.{and-l, and-r, or-r}
 use Rattle.fields.specs.Field.{AllBytes, field}
 use Rattle.fields.specs.Layout.{recordsOf}
@@ -54,7 +54,7 @@ sums-told {number = number} summed e = summed .sums-are (past-none e)
 module _ (version : ℕ) (userZeros : Bool) {us : List User} {ts : List Trade} {n : ℕ} {valid : Bool} {ids sellers buyers : List ℕ} (users : UsersAsked us (userZeros && allValid version us) n valid ids) where
   -- question 5 is answered by no
   pub records-5 : {tradeZeros : Bool} → valid ≡ false → RecordsAsked version userZeros tradeZeros us ts 5 sellers buyers
-  unfolding recordsNumber refusal numberOf
+  unfolding recordsNumber refusal after
   records-5 h = record { asked = rw (sym (users .answer) ∙ h); placed = λ e. absurd (omega arith) }
 
   module _ {tradeZeros allowed : Bool} {read : ℕ} {sums : List ℕ} (trades : TradesAsked (take n ids) ts tradeZeros allowed read sellers buyers sums) (u : valid ≡ true) where
@@ -83,7 +83,7 @@ module _ (version : ℕ) (userZeros : Bool) {us : List User} {ts : List Trade} {
 
     -- question 6 is answered by no
     pub records-6 : allowed ≡ false → RecordsAsked version userZeros tradeZeros us ts 6 sellers buyers
-    unfolding recordsNumber refusal numberOf
+    unfolding recordsNumber refusal after
     records-6 h = record { asked = rw (sym (users .answer) ∙ u, sym trades-answer ∙ h); placed = λ e. absurd (omega arith) }
 
     -- nothing is then told of the sums
@@ -104,12 +104,12 @@ module _ (version : ℕ) (userZeros : Bool) {us : List User} {ts : List Trade} {
       module _ {right : Bool} (e : right ≡ all (positionsValid ts) us) where
         -- question 7 is answered by no
         pub records-7 : right ≡ false → RecordsAsked version userZeros tradeZeros us ts 7 sellers buyers
-        unfolding recordsNumber refusal numberOf
+        unfolding recordsNumber refusal after
         records-7 h = record { asked = rw (sym (users .answer) ∙ u, sym trades-answer ∙ t, sym e ∙ h); placed = λ f. absurd (omega arith) }
 
         -- none is
         pub records-0 : right ≡ true → RecordsAsked version userZeros tradeZeros us ts 0 sellers buyers
-        unfolding recordsNumber refusal numberOf
+        unfolding recordsNumber refusal after
         records-0 h = record { asked = rw (sym (users .answer) ∙ u, sym trades-answer ∙ t, sym e ∙ h); placed = λ f. trades .placed (rw t tt) us (sym listed) }
 
 -- ---- the bytes from the users on
@@ -183,13 +183,13 @@ module _ (s : List ℕ) {version date : ℕ} {prices : Prices} {valid : Bool} (v
 
   -- it is no
   pub fields-4 : {sellers buyers : List ℕ} → valid ≡ false → FieldsPlaced s 4 sellers buyers
-  unfolding fieldsNumber aboutFields refusal numberOf
+  unfolding fieldsNumber aboutFields refusal after
   fields-4 h = record { asked = rw (sym header-answer ∙ h); placed = λ f. absurd (omega arith) }
 
   -- it is yes: the number is that of the users and trades
   pub fields-rest : {n m at to size r : ℕ} {sellers buyers : List ℕ} → valid ≡ true → n ≡ userCount s → m ≡ tradeCount s → at ≡ headerSize (versionOf s) → size ≡ userSize (versionOf s) → to ≡ tradesAt s
       → RecordsAsked version (userZerosIn size at n s) (tradeZerosIn to m s) (usersFrom size at n s) (tradesFrom to m s) r sellers buyers → FieldsPlaced s r sellers buyers
-  unfolding fieldsNumber aboutFields refusal numberOf recordsNumber zerosIn userZerosValid tradeZerosValid userZeros tradeZeros usersOf tradesOf bookOf groupsValid
+  unfolding fieldsNumber aboutFields refusal after recordsNumber zerosIn userZerosValid tradeZerosValid userZeros tradeZeros usersOf tradesOf bookOf groupsValid
   fields-rest h f g begin sized behind asked =
       record {
         asked = asked .asked ∙ rw (f, g, begin, sized, behind, v, sym header-answer ∙ h);
@@ -203,10 +203,10 @@ fields-summed s f g begin sized behind w = rw (← users-there s begin sized f, 
 
 -- the number of a form that is refused is below 4
 pub form-before : (s : List ℕ) {k : ℕ} → k ≡ formNumber s → (k ≡ 0 → ⊥) → T (pastFive k) → ⊥
-unfolding formNumber aboutForm refusal numberOf pastFive pastSix
+unfolding formNumber aboutForm refusal after pastFive pastSix
 form-before s e h = go (marked s) (versioned s) (sized s) e h
   where
-    go : (a b c : Bool) {k : ℕ} → k ≡ numberOf (cond a (cond b (cond c none (some 3)) (some 2)) (some 1)) → (k ≡ 0 → ⊥) → T (pastFive k) → ⊥
+    go : (a b c : Bool) {k : ℕ} → k ≡ firstOf (cond a 0 1) (firstOf (cond b 0 2) (firstOf (cond c 0 3) 0)) → (k ≡ 0 → ⊥) → T (pastFive k) → ⊥
     go true true true e h t = absurd (h e)
     go true true false e h t = rw e at t
     go true false c e h t = rw e at t

@@ -19,7 +19,8 @@ use Rattle.book_sums.specs.Sums.{placesOf}
 use Rattle.book_sums.specs.Twelve.{added, Addable, Twelve}
 use Rattle.book_sums.proofs.Twelve.{twelve-none, addable-sold, addable-bought, twelve-next, twelve-all}
 use Rattle.book_sums.proofs.Walk.{record-at, record-first, record-next, user-at, Passed, passed-start, passed-no, passed-turn, passed-end}
-use Rattle.book_questions.proofs.Loops.{UsersLeft, users-start, users-id-no, users-no, users-turn, users-end, Listed, listed-start, listed-turn, listed-end, rest-set, Led, led-start, led-no, led-turn, led-end}
+use Rattle.fields.proofs.Sets.{rest-set}
+use Rattle.book_questions.proofs.Loops.{UsersLeft, users-start, users-id-no, users-no, users-turn, users-end, Listed, listed-start, listed-turn, listed-end, Led, led-start, led-no, led-turn, led-end}
 use Rattle.book_questions.proofs.Zeros.{ZerosLeft, role-no, role-yes, zeros-end, zeros-start, zeros-turn}
 use Rattle.book_questions.proofs.Known.{valid-rising, tradeAmong-parties, tradeAmong-day, tradeAmong-small}
 

@@ -1,12 +1,11 @@
 -- Laws of the loops that ask users and trades one by one: those left have the whole answer, and a list has what each one passed gave. Assumes nothing.
 use Rattle.base.proofs.Tests.{and-false}
 use Rattle.base.specs.Basics.{_≡_, refl, sym, ap, ap₂, _∙_, Bool, true, false, cond, _&&_, List, [], _∷_, map, map-append, ℕ, _+_, _-_, _<_, _≤_}
-use Rattle.base.specs.Basics.{add-one, arith, ltb, length, take, drop, getD, set, replicate, length-set, drop-of-length-le, drop-cons, drop-drop}
-use Rattle.base.specs.Basics.{drop-set-lt, take-all, take-suc, take-suc-set, le-ltb, lt-ltb}
+use Rattle.base.specs.Basics.{add-one, arith, ltb, length, take, drop, getD, set, length-set, drop-of-length-le, drop-cons}
+use Rattle.base.specs.Basics.{take-all, take-suc, take-suc-set, le-ltb, lt-ltb}
 use Rattle.base.specs.Lists.{all}
 use Rattle.rules.specs.Book.{User, Trade}
 use Rattle.rules.specs.Questions.{idsRise, userValid, usersValid}
-use Rattle.fields.proofs.Sets.{drop-replicate}
 use Rattle.book_questions.specs.Asked.{leading}
 
 -- ---- users whose ids rise
@@ -129,10 +128,3 @@ module _ {A : Type 0} {f : A → ℕ} {xs : List A} {room : ℕ} where
   -- none is left
   pub listed-end : {ns : List ℕ} {i : ℕ} → Listed f xs room ns i → length xs ≤ i → take i ns ≡ map f xs
   listed-end {i = i} before h = before .done ∙ ap (map f) (take-all i xs h)
-
--- the numbers past one that is stored
-pub rest-set : (room i : ℕ) (pad n : ℕ) (ns : List ℕ) → drop i ns ≡ replicate (room - i) pad → drop (i + 1) (set ns i n) ≡ replicate (room - (i + 1)) pad
-rest-set room i pad n ns e =
-    let q : drop 1 (drop i ns) ≡ drop (i + 1) ns = drop-drop 1 i ns in
-    let k : room - i - 1 ≡ room - (i + 1) = omega arith in
-    drop-set-lt (i + 1) ns i n (omega arith) ∙ sym q ∙ ap (drop 1) e ∙ drop-replicate 1 (room - i) pad ∙ ap (λ (m : ℕ). replicate m pad) k

@@ -2,7 +2,7 @@
 use Rattle.base.specs.Basics.{_≡_, Bool, cond, _&&_, _||_, List, [], _∷_, ℕ, _+_, _*_, _≤_, T, eqb, length, take}
 use Rattle.rules.specs.Book.{User, Trade, managerIn}
 use Rattle.base.specs.Lists.{all}
-use Rattle.rules.specs.Questions.{refusal, numberOf, managersValid, manages, usersValid, tradeValid, positionsValid}
+use Rattle.rules.specs.Questions.{refusal, managersValid, manages, usersValid, tradeValid, positionsValid}
 use Rattle.book_valid.specs.Given.{tradeValidGiven}
 use Rattle.book_format.specs.Book.{userSize, usersOf, tradesOf}
 use Rattle.book_format.specs.Questions.{aboutFields, bookNumber}
@@ -96,11 +96,10 @@ pub record RecordsIn (size users-at n trades-at m : ℕ) (s : List ℕ) : Type 0
 -- in a version, the number of the first of the questions 5 to 7 that users and trades fail, 0 where they fail none, given whether their zero bytes are 0
 unfoldable pub recordsNumber : ℕ → Bool → Bool → List User → List Trade → ℕ
 recordsNumber version userZeros tradeZeros us ts =
-    numberOf
-    (refusal
+    refusal
     (record { number = 5; holds = userZeros && allValid version us }
     ∷ (record { number = 6; holds = tradeZeros && all (tradeValid us) ts }
-    ∷ (record { number = 7; holds = all (positionsValid ts) us } ∷ []))))
+    ∷ (record { number = 7; holds = all (positionsValid ts) us } ∷ [])))
 
 -- users and trades that were asked the questions 5 to 7: the number, and the places of the parties where no question refuses
 pub record RecordsAsked (version : ℕ) (userZeros tradeZeros : Bool) (us : List User) (ts : List Trade) (number : ℕ) (sellers buyers : List ℕ) : Type 0 where
@@ -111,7 +110,7 @@ pub record RecordsAsked (version : ℕ) (userZeros tradeZeros : Bool) (us : List
 
 -- the number of the first of the questions 4 to 7 that is answered by no, 0 where there is none
 unfoldable pub fieldsNumber : List ℕ → ℕ
-fieldsNumber s = numberOf (refusal (aboutFields s))
+fieldsNumber s = refusal (aboutFields s)
 
 -- bytes that were asked the questions 4 to 7: the number, and the places of the trades' parties where no question refuses
 pub record FieldsPlaced (s : List ℕ) (number : ℕ) (sellers buyers : List ℕ) : Type 0 where

@@ -55,7 +55,7 @@ unfolding userBytes userWidths amountWidths size
 user-bytes-of c l b z = ap (pack userWidths) (userValues-userOf c b z) ∙ pack-fieldsAt userWidths 0 c l b
 
 -- and those behind them
-manager-bytes-of : (c : List ℕ) → length c ≡ 68 → AllBytes c → managerBytes (managersAt 56 c) ≡ drop 56 c
+pub manager-bytes-of : (c : List ℕ) → length c ≡ 68 → AllBytes c → managerBytes (managersAt 56 c) ≡ drop 56 c
 unfolding managerBytes managerWidths managerValues managersAt fieldsAt size
 manager-bytes-of c l b =
     pack-fieldsAt managerWidths 56 c (omega arith) b ∙ take-all 12 (drop 56 c) (rw length-drop (omega arith))

@@ -9,7 +9,7 @@ use Rattle.base.proofs.Tests.{and-l, and-r}
 use Rattle.base.proofs.Fronts.{getD-inside}
 use Rattle.book_parties.specs.Ids.{idsOf, among, placeIn, Rising}
 use Rattle.book_parties.proofs.Known.{placeIn-among}
-use Rattle.book_parties.proofs.Rising.{placeIn-holds}
+use Rattle.book_parties.proofs.Rising.{length-ids, placeIn-holds}
 use Rattle.book_sums.specs.Sums.{given, givenBy, partiesAmong, placesOf}
 use Rattle.book_sums.proofs.Positions.{same-eqb}
 
@@ -119,10 +119,6 @@ module _ (ids : List ℕ) (t : Trade) (h : T (partiesAmong ids t)) where
   in-area = and-r (among ids (t .terms .seller) && among ids (t .terms .buyer)) (ltb (t .terms .area) 3) h
 
 -- ---- what users sold and bought, by the sums
-
-length-ids : (us : List User) → length (idsOf us) ≡ length us
-unfolding idsOf
-length-ids us = length-map us (λ (u : User). u .party .id)
 
 -- the id at a place is that of the user there
 id-at : (us : List User) (i : ℕ) (d : User) → i < length us → getD (idsOf us) i 0 ≡ getD us i d .party .id

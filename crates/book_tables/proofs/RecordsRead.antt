@@ -1,9 +1,9 @@
 -- Laws of the loop that reads records from bytes into an array, for any type of record: its start, a turn and its end. Assumes nothing.
-use Rattle.base.specs.Basics.{_≡_, sym, ap, _∙_, List, [], _∷_, _++_, map, map-append, append-assoc, append-nil, ℕ, zero, suc, _+_, _-_, _*_, _<_}
+use Rattle.base.specs.Basics.{_≡_, sym, _∙_, List, [], _∷_, _++_, map, map-append, append-assoc, append-nil, ℕ, zero, suc, _+_, _-_, _*_, _<_}
 use Rattle.base.specs.Basics.{_≤_, add-one, mul-zero, mul-suc, not-suc-le-zero, sub-zero, arith, length, take, drop, set, replicate, length-set}
-use Rattle.base.specs.Basics.{length-replicate, take-suc-set, drop-set-lt, drop-drop}
+use Rattle.base.specs.Basics.{length-replicate, take-suc-set, drop-drop}
 use Rattle.fields.specs.Layout.{recordsOf}
-use Rattle.fields.proofs.Sets.{drop-replicate}
+use Rattle.fields.proofs.Sets.{rest-set}
 use Rattle.book_tables.specs.Filled.{Filled}
 
 -- where i of n records are read: the next one stands at a, what was read and what is left are what the bytes hold, and the rest of the array is blank
@@ -13,13 +13,6 @@ pub record Reading {R M : Type 0} (face : R → M) (len : ℕ) (one : List ℕ �
   pub records : map face (take i rs) ++ recordsOf len one (n - i) (drop a s) ≡ recordsOf len one n (drop at s)
   pub rest : drop i rs ≡ replicate (room - i) blank
   pub full : length rs ≡ room
-
--- the blank records past one that is stored
-rest-set : {R : Type 0} (room i : ℕ) (blank r : R) (rs : List R) → drop i rs ≡ replicate (room - i) blank → drop (i + 1) (set rs i r) ≡ replicate (room - (i + 1)) blank
-rest-set room i blank r rs e =
-    let q : drop 1 (drop i rs) ≡ drop (i + 1) rs = drop-drop 1 i rs in
-    let k : room - i - 1 ≡ room - (i + 1) = omega arith in
-    drop-set-lt (i + 1) rs i r (omega arith) ∙ sym q ∙ ap (drop 1) e ∙ drop-replicate 1 (room - i) blank ∙ ap (λ (n : ℕ). replicate n blank) k
 
 module _ {R M : Type 0} (face : R → M) (len : ℕ) (one : List ℕ → M) where
   -- a record moves from what is left to what was read

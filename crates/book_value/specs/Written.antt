@@ -2,7 +2,7 @@
 -- then unchanged." Assumes nothing.
 use Rattle.base.specs.Basics.{_≡_, Bool, _&&_, List, _∷_, ℕ, _≤_, T, leb, eqb, length}
 use Rattle.rules.specs.Book as model
-use Rattle.rules.specs.Questions.{Question, refusal, numberOf, decided, versionKnown}
+use Rattle.rules.specs.Questions.{Question, after, refusal, versionKnown}
 use Rattle.book_format.specs.Book.{bytesOf, lengthBy}
 use Rattle.book_format.specs.Questions.{aboutFields}
 use Rattle.book_tables.specs.declared.Book.{Book}
@@ -22,8 +22,8 @@ aboutWriting users trades b n =
 
 -- the number, and the whole of the part afterwards
 pub record WrittenAs (users trades : ℕ) (b : model.Book) (s : List ℕ) (number : ℕ) (t : List ℕ) : Type 0 where
-  pub asked : number ≡ numberOf (refusal (aboutWriting users trades b (length s)))
-  pub part : t ≡ decided (refusal (aboutWriting users trades b (length s))) (λ n. s) (bytesOf b)
+  pub asked : number ≡ refusal (aboutWriting users trades b (length s))
+  pub part : t ≡ after (refusal (aboutWriting users trades b (length s))) (λ n. s) (bytesOf b)
 
 -- of a struct: its counts, and the book that it is
 abbrev pub Written : Book → List ℕ → ℕ → List ℕ → Type 0

@@ -1,23 +1,18 @@
 -- The number of the opening questions is that of those before the store, or where it is 0 that of the store; the figures are those of the setting. Assumes nothing.
-use Rattle.base.specs.Basics.{_≡_, _∙_, refl, subst, sym, Bool, cond, true, false, Option, List, ℕ, suc, zero}
+use Rattle.base.specs.Basics.{_≡_, _∙_, subst, sym, Bool, cond, true, false, Option, List, ℕ}
 use Rattle.fields.specs.Field.{field}
-use Rattle.book_format.specs.After.{after}
 use Rattle.book_format.specs.Book.{bookOf}
 use Rattle.book_format.specs.Questions.{bookNumber}
 use Rattle.rules.specs.Levels.{Limits}
+use Rattle.rules.specs.Questions.{after, firstOf}
 use Rattle.store.specs.Asked.{ByStore}
 use Rattle.requests.proofs.Opened.{opening-zero}
 use Rattle.requests.specs.Carried.{Admitted}
-use Rattle.requests.specs.Request.{Setting, firstOf, limitsOn, openingIn, settingOf}
+use Rattle.requests.specs.Request.{Setting, limitsOn, openingIn, settingOf}
 use Rattle.rights.proofs.Entered.{entering-book}
 use Rattle.rights.specs.Acting.{enteringNumber}
 use Rattle.rights.specs.Party.{Matter, Party}
-
--- a number other than 0 stays, whatever is asked after it
-pub stays : (n m : ℕ) → (n ≡ 0 → ⊥) → n ≡ firstOf n m
-unfolding after
-stays zero m h = absurd (h refl)
-stays (suc n) m h = refl
+use Rattle.laws.proofs.Refusals.{after-nonzero}
 
 -- 15, where no question before it refuses
 pub unfit : (n : ℕ) (fits : Bool) → n ≡ 0 → fits ≡ false → 15 ≡ firstOf n (cond fits 0 15)
@@ -32,7 +27,7 @@ module _ (s : List ℕ) (store : Option (List ℕ)) {asked : ℕ} where
   -- a question before the store's refuses: whatever the figures
   pub admitted-refused : {limits : Limits} → (asked ≡ 0 → ⊥) → Admitted asked (settingOf store) s asked limits
   unfolding openingIn
-  admitted-refused h = record { asked = stays asked _ h; taken = λ z. absurd (h z) }
+  admitted-refused h = record { asked = sym (after-nonzero (λ k. k) _ h); taken = λ z. absurd (h z) }
 
   -- none does: by the store, on the book's date
   pub admitted-by-store : {limits : Limits} {date number : ℕ} → asked ≡ 0 → date ≡ field 4 8 s → ByStore store date number limits → Admitted asked (settingOf store) s number limits

@@ -1,38 +1,33 @@
 -- The opening questions with that of a lent log are those without it, and then 19. Assumes nothing.
-use Rattle.base.specs.Basics.{_≡_, refl, sym, ap, _∙_, Bool, cond, true, false, List, [], _∷_, ℕ, zero, suc, arith, T}
-use Rattle.book_format.specs.After.{after}
+use Rattle.base.specs.Basics.{_≡_, sym, ap, _∙_, Bool, cond, true, false, List, [], _∷_, ℕ, arith, T}
 use Rattle.book_format.specs.Questions.{bookNumber}
 use Rattle.log_format.specs.Fits.{aboutLog, logFits, logNumber}
 use Rattle.requests.proofs.Lines.{fit-number}
-use Rattle.requests.proofs.Opened.{first-zero, opening-zero}
+use Rattle.requests.proofs.Opened.{opening-zero}
 use Rattle.requests.specs.Carried.{Admitted}
 use Rattle.requests.specs.Logged.{AdmittedWith}
-use Rattle.requests.specs.Request.{Lines, Setting, firstOf, linesFit, opening, openingLines, openingWith, openingWithIn}
+use Rattle.requests.specs.Request.{Lines, Setting, linesFit, opening, openingLines, openingWith, openingWithIn}
 use Rattle.rights.proofs.Entered.{entering-book}
 use Rattle.rights.specs.Acting.{enteringNumber}
 use Rattle.rights.specs.Party.{Matter, Party}
 use Rattle.rules.specs.Levels.{Limits}
-use Rattle.rules.specs.Questions.{numberOf, refusal}
+use Rattle.rules.specs.Questions.{after, firstOf, refusal}
 use Rattle.store.specs.Store.{given}
 use Rattle.call_admission.specs.Log.{LogAsked}
+use Rattle.laws.proofs.Refusals.{after-nonzero, first-zero}
 
 -- ---- asked
 
 -- 19 is not the number: it was answered by yes
-unrefused : (x : Bool) → numberOf (refusal (record { number = 19; holds = x } ∷ [])) ≡ 0 → T x
-unfolding numberOf refusal
+unrefused : (x : Bool) → refusal (record { number = 19; holds = x } ∷ []) ≡ 0 → T x
+unfolding refusal after
 unrefused true z = tt
 unrefused false z = absurd (omega (arith, z))
 
 module _ (l s : List ℕ) (lent : Bool) where
   -- another question refuses
   pub log-unasked : {asked : ℕ} → (asked ≡ 0 → ⊥) → LogAsked asked lent l s asked
-  unfolding after
-  log-unasked {asked} h = record { is = go asked h; before = λ z. z; fits = λ z. absurd (h z) }
-    where
-      go : (n : ℕ) → (n ≡ 0 → ⊥) → n ≡ after n (λ k. k) (logNumber (given lent l) s)
-      go zero k = absurd (k refl)
-      go (suc n) k = refl
+  log-unasked h = record { is = sym (after-nonzero (λ k. k) _ h); before = λ z. z; fits = λ z. absurd (h z) }
 
   log-number-fits : lent ≡ true → logNumber (given lent l) s ≡ 0 → T (logFits l s)
   unfolding given logNumber aboutLog
@@ -48,7 +43,7 @@ pub admitted-with : {n : ℕ} {g : Setting} {s l : List ℕ} {asked number : ℕ
     → AdmittedWith n g (given lent l) s number limits
 unfolding openingWithIn
 admitted-with {s = s} {l} lent a k =
-    record { asked = k .is ∙ ap (λ (n : ℕ). after n (λ m. m) (logNumber (given lent l) s)) (a .asked); taken = λ z. a .taken (k .before z) }
+    record { asked = k .is ∙ ap (λ (n : ℕ). firstOf n (logNumber (given lent l) s)) (a .asked); taken = λ z. a .taken (k .before z) }
 
 -- of a list, whose question 15 was answered by what it passes
 pub lines-with : (n : ℕ) (g : Setting) (v : Lines) {fits : Bool} {s l : List ℕ} {asked number : ℕ} (lent : Bool) → fits ≡ linesFit v → asked ≡ opening (firstOf n (cond fits 0 15)) g s
@@ -56,7 +51,7 @@ pub lines-with : (n : ℕ) (g : Setting) (v : Lines) {fits : Bool} {s l : List �
 unfolding openingWithIn openingLines
 lines-with n g v {s = s} {l} lent e a k =
     k .is
-    ∙ ap (λ (i : ℕ). after i (λ m. m) (logNumber (given lent l) s)) a
+    ∙ ap (λ (i : ℕ). firstOf i (logNumber (given lent l) s)) a
     ∙ ap (λ (i : ℕ). firstOf (opening (firstOf n i) g s) (logNumber (given lent l) s)) (ap (λ (c : Bool). cond {A = ℕ} c 0 15) e ∙ sym (fit-number v))
 
 -- it passes the questions of the book where none refuses

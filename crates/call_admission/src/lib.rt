@@ -10,8 +10,9 @@ ghost use Rattle.units.specs.Limits.{asLimits, LimitsInRange};
 ghost use Rattle.book_format.specs.Questions.{bookNumber};
 ghost use Rattle.book_questions.specs.Opened.{Opened, OpenedFigures};
 ghost use Rattle.store.specs.Store.{given};
+ghost use Rattle.rules.specs.Questions.{firstOf};
 ghost use Rattle.requests.specs.Carried.{Admitted};
-ghost use Rattle.requests.specs.Request.{firstOf, opening, settingOf};
+ghost use Rattle.requests.specs.Request.{opening, settingOf};
 ghost use Rattle.rights.specs.Party.{partyOf, matterBy, operators};
 ghost use Rattle.rights.specs.Acting.{enteringNumber};
 ghost use Rattle.call_admission.specs.Log.{LogAsked};
@@ -48,6 +49,7 @@ fn by_store(book: &[u8], asked: u32, with_store: bool, store: &[u8]) -> Admissio
 pub fn admit(book: &[u8], party: u64, matter: u64, with_store: bool, store: &[u8]) -> Admission
     requires { ⌜ matter ≤ 4294967296 ⌝ }
     ensures { λ r. ⌜ Admitted (enteringNumber (partyOf party) (matterBy matter) (now (book .entry))) (settingOf (given «with_store» (now (store .entry)))) (now (book .entry)) (r .number) (asLimits (r .limits)) ⌝ }
+    ensures { λ r. ⌜ LimitsInRange (asLimits (r .limits)) ⌝ }
     ensures { λ r. ⌜ (r .number ≡ 0 → OpenedFigures (asLimits (r .limits)) (now (book .entry))) ⌝ }
 {
     let asked = book_questions::number(book);
@@ -69,6 +71,7 @@ pub fn admit_with_sums(
     requires { ⌜ (length (now sellers) ≡ 256) × (length (now buyers) ≡ 256) × (now sums ≡ replicate 768 0) ⌝ }
     requires { ⌜ matter ≤ 4294967296 ⌝ }
     ensures { λ r. ⌜ Admitted (enteringNumber (partyOf party) (matterBy matter) (now (book .entry))) (settingOf (given «with_store» (now (store .entry)))) (now (book .entry)) (r .number) (asLimits (r .limits)) ⌝ }
+    ensures { λ r. ⌜ LimitsInRange (asLimits (r .limits)) ⌝ }
     ensures { λ r. ⌜ (r .number ≡ 0 → Opened (asLimits (r .limits)) (now (book .entry)) (now (sellers .exit)) (now (buyers .exit)) (now (sums .exit))) ⌝ }
 {
     let asked = book_questions::ask(book, sellers, buyers, sums);

@@ -1,5 +1,6 @@
 // The answers of the public calls: a number, and what the call found, made or cut; 0 in every other field where the number is not 0.
 use cut_worth::Tally;
+use risk_user::State;
 use units::Cents;
 use units::Energy;
 ghost use mathlib.Core.Path.{_≡_};
@@ -22,6 +23,35 @@ pub struct LevelAnswer {
 pub struct WarningAnswer {
     pub number: u32,
     pub warned: bool,
+}
+
+// Whether a user is flagged, and 0; or no and the number of the first question that is answered by no.
+pub struct FlagAnswer {
+    pub number: u32,
+    pub flagged: bool,
+}
+
+// How many trades a user may see, and 0; or 0 trades and the number of the first question that is answered by no.
+pub struct CountAnswer {
+    pub number: u32,
+    pub count: u32,
+}
+
+// ---- the levels of all users
+
+// A user's id, its state, and its morning and its afternoon level, which are 0 of a clearing house.
+pub struct UserLevels {
+    pub id: u32,
+    pub state: State,
+    pub morning: Cents,
+    pub afternoon: Cents,
+}
+
+// The users of a book in its order, with 0 in every field past the last, and 0; or 0 everywhere, and the number of the first question that
+// is answered by no.
+pub struct LevelsAnswer {
+    pub number: u32,
+    pub users: [UserLevels; 64],
 }
 
 // ---- a guarantee call
@@ -114,6 +144,16 @@ impl RunAnswer {
             worth: Cents(0),
         }
     }
+}
+
+// ---- a withdrawal
+
+// The MWh and the worth of the reduction that was withdrawn, and 0; or 0 in both and the number of the first question that is answered by
+// no.
+pub struct WithdrawalAnswer {
+    pub number: u32,
+    pub mwh: Energy,
+    pub worth: Cents,
 }
 
 // ---- a whole cancellation

@@ -1,6 +1,7 @@
 -- The ways out of a whole cancellation: refused by the opening questions, by 25, by 8, by a question on the user's level, by 14 or by 24, or done. Assumes nothing.
-use Rattle.base.specs.Basics.{_≡_, refl, sym, ap, _∙_, Bool, true, false, cond, _&&_, _||_, List, [], _∷_, _++_, ℕ, zero, suc, _+_, _-_, _^_, _≤_}
-use Rattle.base.specs.Basics.{_<_, arith, leb, getD, take, leb-true, le-leb, lt-leb}
+use Rattle.base.proofs.Tests.{and-l, and-r}
+use Rattle.base.specs.Basics.{_≡_, refl, sym, ap, _∙_, Bool, true, false, cond, _||_, List, [], _∷_, _++_, ℕ, zero, suc, _+_, _-_, _^_, _≤_}
+use Rattle.base.specs.Basics.{_<_, arith, leb, getD, take, le-leb, leb→le, lt-leb}
 use Rattle.call_questions.proofs.Asked.{level-passed, level-refused}
 use Rattle.call_questions.specs.Asked.{ShortfallOf, levelQuestions}
 use Rattle.cut_sets.proofs.Places.{place-search, worths-sum}
@@ -11,7 +12,6 @@ use Rattle.cut_sets.specs.declared.Found.{Found}
 use Rattle.call_entry.proofs.Asked.{entry-found, entry-refused}
 use Rattle.call_entry.specs.Entered as entered
 use Rattle.book_format.proofs.OneUser.{find-place}
-use Rattle.book_format.specs.After.{after}
 use Rattle.book_format.specs.Book.{bookOf, usersOf}
 use Rattle.base.specs.Sums.{sum}
 use Rattle.requests.specs.Cancellation.{aboutCancellation, cancellationAfter, cancelled, cancelledFor, marksOf, notCancelled, searchFor, triesInRange, wholeWorth, worthSuffices}
@@ -19,10 +19,11 @@ use Rattle.rules.specs.Book.{Book, User, find, nobody}
 use Rattle.rules.specs.Calls.{about, eligibleTrade, idKnown}
 use Rattle.rules.specs.Levels.{Limits}
 use Rattle.base.specs.Lists.{any}
-use Rattle.rules.specs.Questions.{Question, decided, numberOf, refusal}
+use Rattle.rules.specs.Questions.{Question, after, firstOf, refusal}
 use Rattle.rules.specs.Reduction.{eligible, hasEligible, target}
 use Rattle.call_cancellation.specs.Call.{onSales, onUser}
 use Rattle.call_cancellation.specs.Sales.{Worths, unmarked}
+use Rattle.laws.proofs.Refusals.{after-append, after-first, after-nonzero, first-yes, first-zero, second-zero}
 
 -- ---- the user's eligible trades
 
@@ -48,7 +49,7 @@ module _ {A : Type 0} (p : A → Bool) where
 module _ {b : Book} {u : User} {k : ℕ} {worths : List ℕ} (w : Worths b u k worths) (asked tries : ℕ) where
   -- 14 refuses who has none
   pub sales-none : k ≡ 0 → onSales b u asked tries ≡ notCancelled 14
-  unfolding onSales eligibleTrade hasEligible refusal decided
+  unfolding onSales eligibleTrade hasEligible refusal after
   sales-none e = rw (none-pass (eligible b u) (b .trades) (sym (w .count-is) ∙ e))
 
   module _ (some : k ≡ 0 → ⊥) {together : ℕ} (t : together ≡ sum (λ x. x) (take k worths)) where
@@ -65,13 +66,13 @@ module _ {b : Book} {u : User} {k : ℕ} {worths : List ℕ} (w : Worths b u k w
 
     -- 24 whose are worth less than the target
     pub sales-short : together < asked → onSales b u asked tries ≡ notCancelled 24
-    unfolding onSales eligibleTrade worthSuffices refusal decided
+    unfolding onSales eligibleTrade worthSuffices refusal after
     sales-short l = rw (has-some, lt-leb asked (sum (λ x. cond (eligible b u x) (wholeWorth b x) 0) (b .trades)) (omega (arith, together-is)))
 
     -- else what the search finds is cancelled
     pub sales-found : asked ≤ together → {r : Found} {marks : List Bool} → Answered (2 ^ k) asked tries (take k worths) r → marks ≡ unmarked b u (r .left)
         → record { number = 0; marks = marks; excess = r .excess; tries = r .tries; complete = r .complete } ≡ onSales b u asked tries
-    unfolding onSales eligibleTrade worthSuffices refusal decided cancelledFor searchFor searchOf
+    unfolding onSales eligibleTrade worthSuffices refusal after cancelledFor searchFor searchOf
     sales-found l {r} {marks} a e =
         let reach = le-leb asked (sum (λ x. cond (eligible b u x) (wholeWorth b x) 0) (b .trades)) (omega (arith, together-is)) in
         let found : searchOf (2 ^ countOf (eligible b u) (b .trades)) r ≡ searchFor b u asked tries =
@@ -85,8 +86,8 @@ module _ {b : Book} {u : User} {k : ℕ} {worths : List ℕ} (w : Worths b u k w
 module _ (limits : Limits) (b : Book) (u : User) (tries : ℕ) where
   -- refused by 9, 11 or 13
   pub user-refused : {n asked : ℕ} → ShortfallOf limits b u n asked → (n ≡ 0 → ⊥) → onUser limits b u tries ≡ notCancelled n
-  unfolding onUser decided
-  user-refused q h = rw (level-refused limits b u (eligibleTrade b u ∷ (worthSuffices b u (target limits b u) ∷ [])) q h)
+  unfolding onUser
+  user-refused q h = rw (level-refused limits b u (eligibleTrade b u ∷ (worthSuffices b u (target limits b u) ∷ [])) q h) (after-nonzero notCancelled (cancelled limits b u tries) h)
 
   -- or 14 and 24 are asked, for the user's target
   pub user-asked : {n asked : ℕ} → ShortfallOf limits b u n asked → n ≡ 0 → onUser limits b u tries ≡ onSales b u asked tries
@@ -97,48 +98,41 @@ module _ (limits : Limits) (b : Book) (u : User) (tries : ℕ) where
 
 -- the number of the opening questions and of 25 after them
 abbrev pub triesAsked : ℕ → ℕ → ℕ
-triesAsked before tries = after before (λ n. n) (numberOf (refusal (triesInRange tries ∷ [])))
+triesAsked before tries = firstOf before (refusal (triesInRange tries ∷ []))
 
 -- the numbers
 pub tries-refused : (before tries : ℕ) → (before ≡ 0 → ⊥) → before ≡ triesAsked before tries
-unfolding after
-tries-refused zero tries h = absurd (h refl)
-tries-refused (suc n) tries h = refl
+tries-refused before tries h = sym (after-nonzero (λ k. k) (refusal (triesInRange tries ∷ [])) h)
 
 module _ (before tries : ℕ) (e : before ≡ 0) where
   pub tries-below : tries < 1 → 25 ≡ triesAsked before tries
-  unfolding after refusal numberOf triesInRange
+  unfolding after refusal triesInRange
   tries-below h = rw (e, lt-leb 1 tries h)
 
   pub tries-above : 65535 < tries → 25 ≡ triesAsked before tries
-  unfolding after refusal numberOf triesInRange
+  unfolding after refusal triesInRange
   tries-above h = rw (e, le-leb 1 tries (omega arith), lt-leb tries 65535 h)
 
   pub tries-within : 1 ≤ tries → tries ≤ 65535 → 0 ≡ triesAsked before tries
-  unfolding after refusal numberOf triesInRange
+  unfolding after refusal triesInRange
   tries-within h k = rw (e, le-leb 1 tries h, le-leb tries 65535 k)
 
 -- what is asked after them
 after-tries : {R : Type 0} (f : ℕ → R) (x : R) (before tries : ℕ) (rest : List Question)
-    → after before f (decided (refusal (triesInRange tries ∷ rest)) f x) ≡ after (triesAsked before tries) f (decided (refusal rest) f x)
-unfolding after refusal decided triesInRange numberOf
-after-tries f x (suc n) tries rest = refl
-after-tries f x zero tries rest = go (leb 1 tries && leb tries 65535)
-  where
-    go : (h : Bool) → decided (refusal (record { number = 25; holds = h } ∷ rest)) f x ≡ after (numberOf (refusal (record { number = 25; holds = h } ∷ []))) f (decided (refusal rest) f x)
-    go true = refl
-    go false = refl
+    → after before f (after (refusal (triesInRange tries ∷ rest)) f x) ≡ after (triesAsked before tries) f (after (refusal rest) f x)
+after-tries f x before tries rest =
+    let first = triesInRange tries ∷ [] in
+    ap (after before f) (after-append first rest f x) ∙ sym (after-first before (refusal first) f (after (refusal rest) f x))
 
 -- where none of them refuses, the tries are in range, and the opening questions passed
 pub tries-passed : (before tries : ℕ) → triesAsked before tries ≡ 0 → (before ≡ 0) × (0 < tries) × (tries < 65536)
-unfolding after triesInRange refusal numberOf
-tries-passed (suc n) tries e = absurd (omega arith)
-tries-passed zero tries e = go (leb 1 tries) (leb tries 65535) refl refl e
-  where
-    go : (l r : Bool) → leb 1 tries ≡ l → leb tries 65535 ≡ r → numberOf (refusal (record { number = 25; holds = l && r } ∷ [])) ≡ 0 → (zero ≡ 0) × (0 < tries) × (tries < 65536)
-    go true true h k z = (refl, omega (arith, leb-true 1 tries h), omega (arith, leb-true tries 65535 k))
-    go true false h k z = absurd (omega arith)
-    go false r h k z = absurd (omega arith)
+unfolding triesInRange
+tries-passed before tries e =
+    let number = refusal (triesInRange tries ∷ []) in
+    let h = first-yes (triesInRange tries) [] (second-zero before number e) tt .0 in
+    let low = leb→le 1 tries (and-l (leb 1 tries) (leb tries 65535) h) in
+    let high = leb→le tries 65535 (and-r (leb 1 tries) (leb tries 65535) h) in
+    (first-zero before number e, omega arith, omega arith)
 
 module _ (before : ℕ) (limits : Limits) (s : List ℕ) (id tries : ℕ) where
   abbrev user : User
@@ -154,7 +148,7 @@ module _ (before : ℕ) (limits : Limits) (s : List ℕ) (id tries : ℕ) where
 
   -- the call is what follows the entry
   entering : cancellationAfter before limits s id tries
-      ≡ after (triesAsked before tries) notCancelled (decided (refusal (idKnown (bookOf s) id ∷ rest)) notCancelled (cancelled limits (bookOf s) user tries))
+      ≡ after (triesAsked before tries) notCancelled (after (refusal (idKnown (bookOf s) id ∷ rest)) notCancelled (cancelled limits (bookOf s) user tries))
   unfolding cancellationAfter
   entering = rw own (after-tries notCancelled (cancelled limits (bookOf s) user tries) before tries (idKnown (bookOf s) id ∷ rest))
 

@@ -13,7 +13,6 @@ ghost use mathlib.Core.Path.{_≡_};
 ghost use Prim.Native.Nat.{_*_, _/_, _%_, _≤_, _<_};
 ghost use lib.Dec.{eqb, ltb};
 ghost use lib.ListN.{getD, replicate};
-ghost use Rattle.book_format.specs.After.{after};
 ghost use Rattle.book_format.specs.Book.{bookOf, tradeCount, tradesAt, tradesOf, userCount, usersOf};
 ghost use Rattle.book_format.specs.Places.{TradeIn};
 ghost use Rattle.units.specs.Limits.{asLimits};
@@ -21,7 +20,7 @@ ghost use Rattle.book_questions.specs.Opened.{Opened};
 ghost use Rattle.requests.specs.Cancellation.{cancellationAfter, triesInRange};
 ghost use Rattle.rules.specs.Areas.{tariff};
 ghost use Rattle.rules.specs.Book.{bilateralForDay, noTrade, nobody};
-ghost use Rattle.rules.specs.Questions.{numberOf, refusal};
+ghost use Rattle.rules.specs.Questions.{firstOf, refusal};
 ghost use Rattle.run_reduction.specs.Books.{Runnable};
 ghost use Rattle.units.specs.Prices.{asPrices, InRange};
 ghost use Rattle.call_answers.specs.Cancellation.{cancellationOf};
@@ -264,7 +263,7 @@ fn cancel_user(
 
 // Question 25, after the opening questions: their number where one is answered by no.
 fn ask_tries(number: u32, tries: u32) -> u32
-    ensures { λ r. ⌜ r ≡ after number (λ n. n) (numberOf (refusal (triesInRange tries ∷ []))) ⌝ }
+    ensures { λ r. ⌜ r ≡ firstOf number (refusal (triesInRange tries ∷ [])) ⌝ }
 {
     if number != 0 {
         return number;

@@ -2,7 +2,6 @@
 use Rattle.base.specs.Basics.{_≡_, refl, ap, _∙_, true, false, List, _++_, ℕ, _+_, _<_, _≤_, mul-le-mul-left, arith, T, eqb, length, take, drop}
 use Rattle.base.specs.Basics.{length-append, length-drop, take-at, take-length}
 use Rattle.base.proofs.Tests.{holds}
-use Rattle.rules.specs.Questions.{decided}
 use Rattle.book_format.specs.Book.{mark, tradesAt, userAt, userCount, versionOf}
 use Rattle.book_format.specs.Questions.{bookNumber}
 use Rattle.book_format.proofs.Offsets.{header-range, size-most}
@@ -14,6 +13,7 @@ use Rattle.book_columns.specs.Calls.{aboutRoom, restored, storedAfter}
 use Rattle.book_columns.proofs.Rearranged.{length-rearranged}
 use Rattle.book_columns.proofs.Forms.{field-wise, formed-laid, length-bookFrom, no-room, room-asked, room-given, shaped-laid}
 use Rattle.call_columns.specs.Rebuilt.{Rebuilt, longest}
+use Rattle.rules.specs.Questions.{after}
 
 -- ---- a book to its form
 
@@ -27,7 +27,7 @@ length-formOf s h = length-rearranged (book-laid s h) false formMark
 module _ (s out : List ℕ) {number : ℕ} (e : number ≡ 0) (h : bookNumber s ≡ 0) where
   pub form-short : length out < length s → Wrote (storedAfter number s out) 30 out
   unfolding storedAfter
-  form-short k = wrote-refused (aboutRoom (formOf s) out) (formOf s) out e (no-room (formOf s) out (rw (length-formOf s h) k))
+  form-short k = wrote-refused (aboutRoom (formOf s) out) (formOf s) out e (no-room (formOf s) out (rw (length-formOf s h) k)) tt
 
   pub form-written : {part : List ℕ} → length s ≤ length out → part ≡ rearranged false 0x46_44_47 s → Wrote (storedAfter number s out) 0 (part ++ drop (length s) out)
   unfolding storedAfter formOf formMark
@@ -83,8 +83,8 @@ module _ (f out : List ℕ) where
     pub restored-short : length out < length f → Wrote (restored f out) 30 out
     restored-short k = left (field-wise .narrow f out e k)
 
-    pub restored-written : {part after : List ℕ} → length f ≤ length out → part ≡ bookFrom f → after ≡ take (length part) part ++ drop (length part) out → Wrote (restored f out) 0 after
-    unfolding restored written decided accepted
+    pub restored-written : {part book : List ℕ} → length f ≤ length out → part ≡ bookFrom f → book ≡ take (length part) part ++ drop (length part) out → Wrote (restored f out) 0 book
+    unfolding restored written after accepted
     restored-written {part} k q w =
         rw (room-asked f out e, room-given (bookFrom f) out (rw (length-bookFrom f out e) k))
         (record { answer = refl; output = w ∙ (rw (take-length part, q) refl) })

@@ -7,41 +7,41 @@ use Rattle.call_entry.proofs.Asked.{entry-found, entry-refused}
 use Rattle.call_entry.specs.Entered.{Entered, Found}
 use Rattle.book_format.proofs.OneUser.{find-place}
 use Rattle.book_format.proofs.Passed.{passed}
-use Rattle.book_format.specs.After.{CalledAfter, after, replyAfter, stepAfter, unchanged}
+use Rattle.book_format.specs.After.{CalledAfter}
 use Rattle.book_format.specs.Book.{bookOf, usersOf}
 use Rattle.book_format.specs.Places.{UserIn}
-use Rattle.book_format.specs.Steps.{InBytes, inBytes}
+use Rattle.book_format.specs.Steps.{inBytes}
 use Rattle.rules.specs.Book.{find, nobody}
-use Rattle.rules.specs.Calls.{Answer, Call, about, effect, idKnown, only}
+use Rattle.rules.specs.Calls.{Answer, Call, Result, about, callAfter, effect, idKnown, only, resultIn, unchanged}
 use Rattle.rules.specs.Levels.{Limits}
-use Rattle.rules.specs.Queries.{Query, aboutQuery, found, onlyNumber}
-use Rattle.rules.specs.Questions.{Question, decided, refusal}
+use Rattle.rules.specs.Queries.{Query, aboutQuery, found, onlyNumber, replyAfter}
+use Rattle.rules.specs.Questions.{Question, after, refusal}
 
 -- what a call gives is its contract
-pub called : {before : ℕ} {limits : Limits} {s t : List ℕ} {a x : Answer} (c : Call) → a ≡ x → stepAfter before limits s c ≡ record { answer = x; bytes = t } → CalledAfter before limits s c a t
-called c h e = record { answer = h ∙ sym (ap (λ (r : InBytes). r .answer) e); bytes = sym (ap (λ (r : InBytes). r .bytes) e) }
+pub called : {before : ℕ} {limits : Limits} {s t : List ℕ} {a x : Answer} (c : Call) → a ≡ x → callAfter inBytes before limits s c ≡ record { answer = x; book = t } → CalledAfter before limits s c a t
+called c h e = record { answer = h ∙ sym (ap (λ (r : Result (List ℕ)). r .answer) e); bytes = sym (ap (λ (r : Result (List ℕ)). r .book) e) }
 
 module _ (before : ℕ) (limits : Limits) (s : List ℕ) (id : ℕ) (rest : List Question) where
   -- ---- a call
 
   module _ (c : Call) (own : about limits (bookOf s) c ≡ idKnown (bookOf s) id ∷ rest) where
-    pub call-refused : {n place : ℕ} → Entered before s id n place → (n ≡ 0 → ⊥) → stepAfter before limits s c ≡ record { answer = only n; bytes = s }
-    unfolding stepAfter unchanged
-    call-refused {n} e h = rw own (entry-refused s id rest (unchanged s) (inBytes (effect limits (bookOf s) c)) before n (e .asked) h)
+    pub call-refused : {n place : ℕ} → Entered before s id n place → (n ≡ 0 → ⊥) → callAfter inBytes before limits s c ≡ record { answer = only n; book = s }
+    unfolding callAfter unchanged
+    call-refused {n} e h = rw own (entry-refused s id rest (unchanged s) (resultIn inBytes (effect limits (bookOf s) c)) before n (e .asked) h)
 
     pub call-found : {place : ℕ} → before ≡ 0 → Found s id place
-        → stepAfter before limits s c ≡ decided (refusal rest) (λ n. record { answer = only n; bytes = s }) (inBytes (effect limits (bookOf s) c))
-    unfolding stepAfter unchanged after
+        → callAfter inBytes before limits s c ≡ after (refusal rest) (λ n. record { answer = only n; book = s }) (resultIn inBytes (effect limits (bookOf s) c))
+    unfolding callAfter unchanged after
     call-found e f = rw (e, own, entry-found s id rest f)
 
   -- ---- a query
 
   module _ (q : Query) (own : aboutQuery (bookOf s) q ≡ idKnown (bookOf s) id ∷ rest) where
-    pub query-refused : {n place : ℕ} → Entered before s id n place → (n ≡ 0 → ⊥) → replyAfter before limits s q ≡ onlyNumber n
+    pub query-refused : {n place : ℕ} → Entered before s id n place → (n ≡ 0 → ⊥) → replyAfter before limits (bookOf s) q ≡ onlyNumber n
     unfolding replyAfter
     query-refused {n} e h = rw own (entry-refused s id rest onlyNumber (found limits (bookOf s) q) before n (e .asked) h)
 
-    pub query-found : {place : ℕ} → before ≡ 0 → Found s id place → replyAfter before limits s q ≡ decided (refusal rest) onlyNumber (found limits (bookOf s) q)
+    pub query-found : {place : ℕ} → before ≡ 0 → Found s id place → replyAfter before limits (bookOf s) q ≡ after (refusal rest) onlyNumber (found limits (bookOf s) q)
     unfolding replyAfter after
     query-found e f = rw (e, own, entry-found s id rest f)
 

@@ -2,9 +2,8 @@
 use mathlib.Core.Path.{_≡_}
 use mathlib.Core.List.{List, [], _∷_}
 use Prim.Native.Nat.{ℕ, _<_}
-use Rattle.rules.specs.Questions.{refusal, numberOf}
+use Rattle.rules.specs.Questions.{firstOf, refusal}
 use Rattle.rules.specs.Calls.{idKnown}
-use Rattle.book_format.specs.After.{after}
 use Rattle.book_format.specs.Book.{userCount, usersOf, bookOf}
 use Rattle.book_format.specs.Questions.{bookNumber}
 use Rattle.book_format.specs.Steps.{placeOf}
@@ -17,6 +16,6 @@ pub record Found (s : List ℕ) (id place : ℕ) : Type 0 where
 
 -- the number of the opening questions, or of question 8 after them; where it is 0 the user is found
 pub record Entered (before : ℕ) (s : List ℕ) (id number place : ℕ) : Type 0 where
-  pub asked : number ≡ after before (λ n. n) (numberOf (refusal (idKnown (bookOf s) id ∷ [])))
+  pub asked : number ≡ firstOf before (refusal (idKnown (bookOf s) id ∷ []))
   pub start : number ≡ 0 → before ≡ 0
   pub found : number ≡ 0 → Found s id place

@@ -3,8 +3,8 @@ use Rattle.base.specs.Basics.{_≡_, refl, sym, ap, _∙_, Bool, true, false, f
 use Rattle.base.specs.Basics.{le-leb, lt-leb}
 use Rattle.rules.specs.Book.{Book, User, find, nobody}
 use Rattle.rules.specs.Levels.{Limits, shipper, exceedsMargin}
-use Rattle.rules.specs.Questions.{Question, refusal, decided}
-use Rattle.rules.specs.Calls.{about, assignedSuffices, calledInBeyondMargin, effect, guaranteed, idKnown, isShipper, marginExceeded, ofLevel, only}
+use Rattle.rules.specs.Questions.{Question, after, refusal}
+use Rattle.rules.specs.Calls.{about, assignedSuffices, callAfter, calledInBeyondMargin, effect, guaranteed, idKnown, isShipper, marginExceeded, ofLevel, only, resultIn, unchanged}
 use Rattle.rules.specs.Changes.{blockedTo}
 use Rattle.fields.specs.Field.{AllBytes}
 use Rattle.book_records.specs.User.{alone, asUser, userBytes, userValues}
@@ -13,7 +13,6 @@ use Rattle.book_format.specs.Book.{bookOf, userAt, usersOf}
 use Rattle.book_format.specs.Steps.{inBytes}
 use Rattle.book_format.proofs.OneUser.{changed-bytes}
 use Rattle.book_format.proofs.Passed.{passed}
-use Rattle.book_format.specs.After.{stepAfter}
 use Rattle.call_entry.specs.Entered.{Entered, Found}
 use Rattle.call_entry.proofs.Calls.{call-found, call-refused, found-at}
 use Rattle.call_level.specs.Times.{levelOf}
@@ -43,17 +42,17 @@ module _ (limits : Limits) (b : Book) (level : ℕ) (u : User) where
 -- ---- the end of a call
 
 module _ (s : List ℕ) (place : ℕ) (u : User) (level : ℕ) {due : Bool} where
-  pub raised-undue : due ≡ false → raised s place u level due ≡ record { answer = only 11; bytes = s }
-  unfolding raised lastQuestions refusal decided
+  pub raised-undue : due ≡ false → raised s place u level due ≡ record { answer = only 11; book = s }
+  unfolding raised lastQuestions refusal after unchanged
   raised-undue e = rw e
 
-  pub raised-short : due ≡ true → u .party .assigned < level → raised s place u level due ≡ record { answer = only 12; bytes = s }
-  unfolding raised lastQuestions assignedSuffices refusal decided
+  pub raised-short : due ≡ true → u .party .assigned < level → raised s place u level due ≡ record { answer = only 12; book = s }
+  unfolding raised lastQuestions assignedSuffices refusal after unchanged
   raised-short e h = rw (e, lt-leb level (u .party .assigned) h)
 
   pub raised-full : due ≡ true → level ≤ u .party .assigned
-      → raised s place u level due ≡ record { answer = ofLevel level (level - u .blocked); bytes = sets s (userAt s place) (userBytes (blockedTo level u)) }
-  unfolding raised lastQuestions assignedSuffices refusal decided
+      → raised s place u level due ≡ record { answer = ofLevel level (level - u .blocked); book = sets s (userAt s place) (userBytes (blockedTo level u)) }
+  unfolding raised lastQuestions assignedSuffices refusal after
   raised-full e h = rw (e, le-leb level (u .party .assigned) h)
 
 -- ---- a call
@@ -84,32 +83,32 @@ module _ (before : ℕ) (limits : Limits) (s : List ℕ) (id : ℕ) (afternoon :
   abbrev rest : List Question
   rest = isShipper user ∷ lastQuestions due level user
 
-  pub call-unentered : {n place : ℕ} → Entered before s id n place → (n ≡ 0 → ⊥) → stepAfter before limits s (callOf afternoon id) ≡ record { answer = only n; bytes = s }
+  pub call-unentered : {n place : ℕ} → Entered before s id n place → (n ≡ 0 → ⊥) → callAfter inBytes before limits s (callOf afternoon id) ≡ record { answer = only n; book = s }
   call-unentered e h = call-refused before limits s id rest (callOf afternoon id) (call-asks limits (bookOf s) id afternoon) e h
 
   module _ {place : ℕ} (o : before ≡ 0) (f : Found s id place) where
-    pub call-of-house : (find (bookOf s .users) id .party .role ≡ 0 → ⊥) → stepAfter before limits s (callOf afternoon id) ≡ record { answer = only 9; bytes = s }
-    unfolding isShipper shipper refusal decided
+    pub call-of-house : (find (bookOf s .users) id .party .role ≡ 0 → ⊥) → callAfter inBytes before limits s (callOf afternoon id) ≡ record { answer = only 9; book = s }
+    unfolding isShipper shipper refusal after
     call-of-house h =
         rw (call-found before limits s id rest (callOf afternoon id) (call-asks limits (bookOf s) id afternoon) o f, ne-eqb (user .party .role) 0 h)
 
     -- one user's record is changed
-    effect-bytes : AllBytes s → inBytes (effect limits (bookOf s) (callOf afternoon id))
-        ≡ record { answer = ofLevel level (level - user .blocked); bytes = sets s (userAt s place) (userBytes (blockedTo level user)) }
-    unfolding inBytes guaranteed bookOf blockedTo
+    effect-bytes : AllBytes s → resultIn inBytes (effect limits (bookOf s) (callOf afternoon id))
+        ≡ record { answer = ofLevel level (level - user .blocked); book = sets s (userAt s place) (userBytes (blockedTo level user)) }
+    unfolding resultIn guaranteed bookOf blockedTo
     effect-bytes h =
         rw (call-effects limits (bookOf s) id afternoon, f .stands)
-        (ap (λ (l : List ℕ). record { answer = ofLevel level (level - user .blocked); bytes = l })
+        (ap (λ (l : List ℕ). record { answer = ofLevel level (level - user .blocked); book = l })
         (changed-bytes s h (passed s (f .passes)) id (blockedTo level) (rw (f .stands) at (f .known)) refl))
 
-    pub call-raised : AllBytes s → user .party .role ≡ 0 → stepAfter before limits s (callOf afternoon id) ≡ raised s place user level due
-    unfolding isShipper shipper refusal raised
+    pub call-raised : AllBytes s → user .party .role ≡ 0 → callAfter inBytes before limits s (callOf afternoon id) ≡ raised s place user level due
+    unfolding isShipper shipper refusal after raised unchanged
     call-raised h k =
         rw (call-found before limits s id rest (callOf afternoon id) (call-asks limits (bookOf s) id afternoon) o f, eq-eqb (user .party .role) 0 k)
-        (ap (decided (refusal (lastQuestions due level user)) (λ n. record { answer = only n; bytes = s })) (effect-bytes h))
+        (ap (after (refusal (lastQuestions due level user)) (unchanged s)) (effect-bytes h))
 
     -- what the questions 11 and 12 leave of the user at the place
-    pub call-ends : AllBytes s → find (bookOf s .users) id .party .role ≡ 0 → calledAt afternoon limits s place ≡ stepAfter before limits s (callOf afternoon id)
+    pub call-ends : AllBytes s → find (bookOf s .users) id .party .role ≡ 0 → calledAt afternoon limits s place ≡ callAfter inBytes before limits s (callOf afternoon id)
     unfolding calledAt
     call-ends h k =
         ap (λ (u : User). raised s place u (levelOf afternoon limits (bookOf s) u) (dueOf afternoon limits (bookOf s) (levelOf afternoon limits (bookOf s) u) u)) (found-at f) ∙ sym (call-raised h k)

@@ -2,27 +2,26 @@
 use Rattle.base.specs.Basics.{Bool, List, [], _∷_, ℕ, _-_, getD, sets}
 use Rattle.rules.specs.Book.{User, nobody}
 use Rattle.rules.specs.Levels.{Limits}
-use Rattle.rules.specs.Questions.{Question, refusal, decided}
+use Rattle.rules.specs.Questions.{Question, after, refusal}
 use Rattle.rules.specs.Changes.{blockedTo}
-use Rattle.rules.specs.Calls.{only, ofLevel, assignedSuffices}
+use Rattle.rules.specs.Calls.{Result, ofLevel, assignedSuffices, unchanged}
 use Rattle.book_records.specs.User.{userBytes}
 use Rattle.book_format.specs.Book.{bookOf, userAt, usersOf}
 use Rattle.call_level.specs.Times.{levelOf}
 use Rattle.call_guarantee.specs.Times.{dueOf}
-use Rattle.book_format.specs.Steps.{InBytes}
 
 -- the questions 11, with its answer, and 12
 unfoldable pub lastQuestions : Bool → ℕ → User → List Question
 lastQuestions due level u = record { number = 11; holds = due } ∷ (assignedSuffices level u ∷ [])
 
 -- what the questions 11 and 12 leave: the bytes as they are, or with the record of the user at the place, whose blocked guarantee reaches the level
-unfoldable pub raised : List ℕ → ℕ → User → ℕ → Bool → InBytes
+unfoldable pub raised : List ℕ → ℕ → User → ℕ → Bool → Result (List ℕ)
 raised s place u level due =
-    decided (refusal (lastQuestions due level u)) (λ n. record { answer = only n; bytes = s })
-    (record { answer = ofLevel level (level - u .blocked); bytes = sets s (userAt s place) (userBytes (blockedTo level u)) })
+    after (refusal (lastQuestions due level u)) (unchanged s)
+    (record { answer = ofLevel level (level - u .blocked); book = sets s (userAt s place) (userBytes (blockedTo level u)) })
 
 -- what they leave of the user at a place
-unfoldable pub calledAt : Bool → Limits → List ℕ → ℕ → InBytes
+unfoldable pub calledAt : Bool → Limits → List ℕ → ℕ → Result (List ℕ)
 calledAt afternoon limits s place =
     let u = getD (usersOf s) place nobody in
     let level = levelOf afternoon limits (bookOf s) u in

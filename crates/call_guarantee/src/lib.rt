@@ -67,7 +67,7 @@ fn is_due(
 fn raise(book: &mut [u8], place: usize, user: User, level: Cents, due: bool) -> CallAnswer
     requires { ⌜ UserIn (now book) place ⌝ }
     ensures { λ r. ⌜ answerOf r ≡ raised (now (book .entry)) place (asUser user) (level .0) due .answer ⌝ }
-    ensures { λ _. ⌜ now (book .exit) ≡ raised (now (book .entry)) place (asUser user) (level .0) due .bytes ⌝ }
+    ensures { λ _. ⌜ now (book .exit) ≡ raised (now (book .entry)) place (asUser user) (level .0) due .book ⌝ }
 {
     let assigned = user.assigned;
     if !due {
@@ -102,7 +102,7 @@ fn call_at(
     requires { ⌜ OpenedFigures (asLimits limits) (now book) × (afternoon ≡ true → BorneIn (now book) (now «bearing_sellers») (now «bearing_buyers»)) × (place < userCount (now book)) ⌝ }
     requires { ⌜ (asUser user ≡ alone (getD (usersOf (now book)) place nobody)) × HoldingsOf (now book) place holdings ⌝ }
     ensures { λ r. ⌜ answerOf r ≡ calledAt afternoon (asLimits limits) (now (book .entry)) place .answer ⌝ }
-    ensures { λ _. ⌜ now (book .exit) ≡ calledAt afternoon (asLimits limits) (now (book .entry)) place .bytes ⌝ }
+    ensures { λ _. ⌜ now (book .exit) ≡ calledAt afternoon (asLimits limits) (now (book .entry)) place .book ⌝ }
 {
     let pvb = holdings.pvb;
     let tvb = holdings.tvb;

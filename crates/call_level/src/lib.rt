@@ -11,7 +11,7 @@ ghost use Rattle.rules.specs.Book.{nobody};
 ghost use Rattle.book_records.specs.User.{alone, asUser};
 ghost use Prim.Native.Nat.{_<_};
 ghost use Rattle.book_format.specs.Book.{bookOf, userCount, usersOf};
-ghost use Rattle.book_format.specs.After.{replyAfter};
+ghost use Rattle.rules.specs.Queries.{replyAfter};
 ghost use Rattle.call_answers.specs.Level.{replyOf};
 ghost use Rattle.risk_members.specs.Members.{HoldingsOf};
 ghost use Rattle.book_questions.specs.Opened.{OpenedFigures, OpenedSums};
@@ -48,7 +48,7 @@ pub fn level(
     afternoon: bool,
 ) -> LevelAnswer
     requires { ⌜ (number ≡ 0 → OpenedSums (asLimits limits) (now book) (now sums)) ⌝ }
-    ensures { λ r. ⌜ replyOf r ≡ replyAfter number (asLimits limits) (now (book .entry)) (queryOf afternoon id) ⌝ }
+    ensures { λ r. ⌜ replyOf r ≡ replyAfter number (asLimits limits) (bookOf (now (book .entry))) (queryOf afternoon id) ⌝ }
 {
     let entry = call_entry::seek(book, number, id);
     let number = entry.number;

@@ -10,7 +10,8 @@ use Rattle.book_format.specs.Places.{UserIn}
 use Rattle.book_format.specs.Questions.{Formed, bookNumber}
 use Rattle.book_parties.proofs.Rising.{rising-ids}
 use Rattle.book_parties.specs.Ids.{idsOf}
-use Rattle.book_questions.proofs.Loops.{Listed, listed-end, listed-start, listed-turn, rest-set}
+use Rattle.fields.proofs.Sets.{rest-set}
+use Rattle.book_questions.proofs.Loops.{Listed, listed-end, listed-start, listed-turn}
 use Rattle.book_records.specs.User.{userOf}
 use Rattle.requests.proofs.Lines.{Onward}
 use Rattle.rules.specs.Book.{Header, Party, User, nobody}

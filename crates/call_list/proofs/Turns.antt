@@ -3,19 +3,19 @@ use Rattle.base.specs.Basics.{_≡_, _∙_, ap, refl, subst⁻¹, sym, List, []
 use Rattle.base.specs.Basics.{arith, ℤ, pos, length, take, drop, getD, set, length-set, drop-of-length-le, drop-cons, take-all, take-suc-set}
 use Rattle.call_entry.proofs.Asked.{entry-unknown}
 use Rattle.fields.specs.Field.{AllBytes}
-use Rattle.book_format.specs.After.{CalledAfter, after, stepAfter}
+use Rattle.book_format.specs.After.{CalledAfter}
 use Rattle.book_format.specs.Book.{bookOf, usersOf}
 use Rattle.book_format.specs.Questions.{bookNumber}
-use Rattle.book_format.specs.Steps.{placeOf}
+use Rattle.book_format.specs.Steps.{inBytes, placeOf}
 use Rattle.book_parties.proofs.Known.{placeIn-placeOf}
 use Rattle.book_parties.specs.Ids.{placeIn}
 use Rattle.call_posting.proofs.Ways.{refused}
 use Rattle.call_posting.specs.Posting.{postingOf}
 use Rattle.requests.proofs.Lines.{Onward, one-line, onward-opening, posting-onward}
-use Rattle.requests.proofs.Opened.{call-outcome, outcome}
-use Rattle.requests.specs.Request.{Outcome, Setting, asBytes, limitsOn, linesIn, opening, stepIn}
-use Rattle.rules.specs.Calls.{Answer, only, posting}
+use Rattle.requests.specs.Request.{Setting, asBytes, limitsOn, linesIn, opening, stepIn}
+use Rattle.rules.specs.Calls.{Answer, Result, callAfter, only, posting}
 use Rattle.rules.specs.Levels.{Limits, today}
+use Rattle.rules.specs.Questions.{after}
 use Rattle.call_list.proofs.Ids.{known-onward}
 use Rattle.call_list.specs.Lines.{Known, LinesPosted, ListedAfter}
 
@@ -65,12 +65,12 @@ module _ {known : List ℕ} {n at size : ℕ} {ids areas : List ℕ} {amounts : 
 
     -- the line by itself, in a setting
     first : (g : Setting) → opening (bookNumber s) g s ≡ 0 → (stepIn asBytes (bookNumber s) g s (posting (getD ids i 0) (getD areas i 0) (getD amounts i (pos 0))) .answer .number ≡ r) × (stepIn asBytes (bookNumber s) g s (posting (getD ids i 0) (getD areas i 0) (getD amounts i (pos 0))) .book ≡ t)
-    unfolding stepIn outcome only
+    unfolding stepIn only
     first g e =
         let call = posting (getD ids i 0) (getD areas i 0) (getD amounts i (pos 0)) in
         let limits = limitsOn g (bookOf s) in
-        let o : stepIn asBytes (bookNumber s) g s call ≡ outcome (stepAfter 0 limits s call) = call-outcome (opening (bookNumber s) g s) limits s call ∙ ap (λ (m : ℕ). outcome (stepAfter m limits s call)) e in
-        (ap (λ (x : Outcome (List ℕ)). x .answer .number) o ∙ ap (λ (a : Answer). a .number) (sym (c limits .answer)), ap (λ (x : Outcome (List ℕ)). x .book) o ∙ sym (c limits .bytes))
+        let o : stepIn asBytes (bookNumber s) g s call ≡ callAfter inBytes 0 limits s call = ap (λ (m : ℕ). callAfter inBytes m limits s call) e in
+        (ap (λ (x : Result (List ℕ)). x .answer .number) o ∙ ap (λ (a : Answer). a .number) (sym (c limits .answer)), ap (λ (x : Result (List ℕ)). x .book) o ∙ sym (c limits .bytes))
 
     -- the line and those after it
     line-then : (g : Setting) → opening (bookNumber s) g s ≡ 0

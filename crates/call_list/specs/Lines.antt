@@ -1,10 +1,10 @@
 -- A list of postings after its opening questions: what is known before its lines, and what they leave. Assumes nothing.
 use Rattle.base.specs.Basics.{_≡_, List, ℕ, ℤ, length, take}
-use Rattle.book_format.specs.After.{after}
 use Rattle.book_format.specs.Book.{headerSize, userCount, userSize, usersOf, versionOf}
 use Rattle.book_format.specs.Questions.{bookNumber}
 use Rattle.book_parties.specs.Ids.{Padded, idsOf}
 use Rattle.requests.specs.Request.{Setting, asBytes, linesIn, opening}
+use Rattle.rules.specs.Questions.{after}
 
 -- the columns and the places have one count
 pub record Even (ids areas : List ℕ) (amounts : List ℤ) (places : List ℕ) : Type 0 where

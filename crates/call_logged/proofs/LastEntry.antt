@@ -2,7 +2,6 @@
 use Rattle.base.specs.Basics.{_≡_, refl, sym, ap, ap₂, subst, _∙_, some, List, [], _∷_, ℕ, zero, suc, _+_, _-_, _*_, _≤_, _<_, arith, T, length, take}
 use Rattle.base.specs.Basics.{drop, take-take, lt-ltb}
 use Rattle.base.proofs.Linear.{by-order}
-use Rattle.book_format.specs.After.{after}
 use Rattle.book_format.specs.Book.{bookOf, tradeCount, tradesOf}
 use Rattle.book_format.specs.Held.{HeldAs}
 use Rattle.cut_worth.specs.Tallies.{asTally}
@@ -25,7 +24,7 @@ use Rattle.requests.specs.Logged.{GivesLogged}
 use Rattle.requests.specs.Request.{Outcome, asBytes, enteredIn, refusedGiven, withdrawalAfter}
 use Rattle.rules.specs.Areas.{Prices}
 use Rattle.rules.specs.Calls.{Answer, ofRun, only}
-use Rattle.rules.specs.Questions.{decided, refusal}
+use Rattle.rules.specs.Questions.{after, refusal}
 use Rattle.rules.specs.Reduction.{nothing, tallyAll}
 
 -- ---- refused
@@ -41,7 +40,7 @@ unfolding entriesOf entriesIn
 no-entries s l e = ap (λ (k : ℕ). entriesIn (tradeCount s) k l) e
 
 empty-refused : (s l : List ℕ) {n : ℕ} → n ≡ 0 → entryCount l ≡ 0 → withdrawalAfter asBytes n l s ≡ refusedGiven (some l) s 18
-unfolding withdrawalAfter after hasEntry refusal decided
+unfolding withdrawalAfter after hasEntry refusal
 empty-refused s l z e = rw (z, no-entries s l e)
 
 pub withdrawal-none : (s l : List ℕ) {n : ℕ} → n ≡ 0 → entryCount l ≡ 0 → {a : Answer} → a ≡ only 18 → GivesLogged (withdrawalAfter asBytes n l s) a s l
@@ -107,7 +106,7 @@ module _ (l s : List ℕ) (b : AllBytes l) (few : tradeCount s ≤ 256) (h : T (
   part-within f k = subst (λ (cs : List ℕ). T (raisesWithin cs (tradesOf s))) (sym (part-cuts f k)) last-within
 
   passed : withdrawalAfter asBytes 0 l s ≡ enteredIn asBytes (record { answer = returned (bookOf s) (cutsAt (tradeCount s) l place); book = withdrawn (bookOf s) (cutsAt (tradeCount s) l place); entries = entriesIn (tradeCount s) place l })
-  unfolding withdrawalAfter after hasEntry refusal decided withdrawalEntered lastEntry beforeLast
+  unfolding withdrawalAfter after hasEntry refusal withdrawalEntered lastEntry beforeLast
   passed = rw (entries-are, lt-ltb 0 (suc (length others)) (omega arith))
 
   -- what the call gives

@@ -1,7 +1,6 @@
 -- The ways out of the calls with a log: refused by an opening question, or carried out and noted. Assumes nothing.
 use Rattle.base.specs.Basics.{_≡_, refl, sym, ap, subst, _∙_, Bool, true, false, cond, Option, none, some, List, ℕ, zero, suc, _-_, _≤_, T}
 use Rattle.fields.specs.Field.{AllBytes}
-use Rattle.book_format.specs.After.{after}
 use Rattle.book_format.specs.Book.{bookOf, tradeCount}
 use Rattle.call_run.specs.Call.{runCall}
 use Rattle.cut_worth.specs.Totals.{totals}
@@ -17,7 +16,7 @@ use Rattle.requests.specs.Request.{Outcome, asBytes, enteredIn, loggedAfter, re
 use Rattle.rules.specs.Book.{User}
 use Rattle.rules.specs.Calls.{Answer, Call, about, nextReduced, ofRun, only, runFor}
 use Rattle.rules.specs.Levels.{Limits}
-use Rattle.rules.specs.Questions.{decided, refusal}
+use Rattle.rules.specs.Questions.{after, refusal}
 use Rattle.run_noted.specs.Noted.{NotedIn}
 use Rattle.call_logged.specs.Given.{numbered}
 
@@ -39,7 +38,7 @@ stopped-answer false o t a u e f g = rw (f refl, e)
 
 module _ (limits : Limits) (s l : List ℕ) (b : AllBytes l) (few : tradeCount s ≤ 256) (fits : T (logFits l s)) where
   run-passed : {n : ℕ} → n ≡ 0 → loggedAfter asBytes n limits l s runCall ≡ enteredIn asBytes (callEntered limits (room l) (entriesOf s l) (bookOf s) runCall)
-  unfolding loggedAfter after about lastly refusal decided
+  unfolding loggedAfter after about lastly refusal
   run-passed h = rw h
 
   pub run-logged : {n count : ℕ} → n ≡ 0 → count ≡ entryCount l → {l' m t : List ℕ} {r : Totals} {many : ℕ} {due : Bool}

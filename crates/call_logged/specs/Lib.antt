@@ -1,3 +1,2 @@
 -- What a call with a log gives, after its opening questions.
 pub mod Given
-pub mod Withdrawal

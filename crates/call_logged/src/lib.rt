@@ -1,6 +1,7 @@
 // The calls of a lent book in bytes that write entries of a log, after the opening questions: a run that notes each of its reductions, and
 // the withdrawal of the last one noted. The log then holds the book as the call leaves it.
 use call_answers::RunAnswer;
+use call_answers::WithdrawalAnswer;
 use cut_worth::Tally;
 use cut_worth::Totals;
 use risk_user::Day;
@@ -23,7 +24,7 @@ ghost use Rattle.requests.specs.Logged.{GivesLogged};
 ghost use Rattle.requests.specs.Request.{asBytes, loggedAfter, withdrawalAfter};
 ghost use Rattle.units.specs.Limits.{asLimits};
 ghost use Rattle.call_logged.specs.Given.{numbered};
-ghost use Rattle.call_logged.specs.Withdrawal.{withdrawalOf};
+ghost use Rattle.call_answers.specs.Withdrawal.{withdrawalOf};
 
 // ---- a run
 
@@ -100,13 +101,6 @@ pub fn run(
 }
 
 // ---- a withdrawal
-
-// What a withdrawal returns: the number, the MWh and the worth of the reduction that was withdrawn.
-pub struct WithdrawalAnswer {
-    pub number: u32,
-    pub mwh: Energy,
-    pub worth: Cents,
-}
 
 // A number alone.
 fn not_withdrawn(number: u32) -> WithdrawalAnswer

@@ -11,7 +11,7 @@ use Rattle.book_format.specs.Book.{bookOf, tradesOf, userAt, userCount, usersOf
 use Rattle.book_format.specs.Places.{UserIn}
 use Rattle.book_format.specs.Questions.{bookNumber}
 use Rattle.book_format.specs.Steps.{inBytes, placeOf}
-use Rattle.book_format.specs.After.{CalledAfter, stepAfter}
+use Rattle.book_format.specs.After.{CalledAfter}
 use Rattle.base.proofs.Linear.{abs-parts}
 use Rattle.base.specs.Parts.{negPart, posPart}
 use Rattle.laws.proofs.Bounds.{entry-le, position-bound}
@@ -19,10 +19,10 @@ use Rattle.call_posting.proofs.Bytes.{entry-bytes, position-bytes, post
 use Rattle.call_posting.specs.Posting.{PostedAt, PostedTo, Ready, postingOf}
 use Rattle.book_records.specs.User.{userBytes}
 use Rattle.rules.specs.Book.{User, at, find, nobody}
-use Rattle.rules.specs.Calls.{about, effect, entryInRange, idKnown, only}
+use Rattle.rules.specs.Calls.{about, callAfter, effect, entryInRange, idKnown, only, resultIn}
 use Rattle.rules.specs.Changes.{posted}
 use Rattle.rules.specs.Levels.{Limits}
-use Rattle.rules.specs.Questions.{Question, decided, positionsValid, refusal, userValid}
+use Rattle.rules.specs.Questions.{Question, after, positionsValid, refusal, userValid}
 use Rattle.rules.specs.Signed.{bitsOf, signedOf, within}
 
 -- both parts of an integer are in range, and so it is
@@ -33,7 +33,7 @@ parts-within n (negsuc k) p q = le-leb (natAbs (negsuc k)) n (omega (arith, abs-
 
 module _ (before : ℕ) (limits : Limits) (s : List ℕ) (id area : ℕ) (amount : ℤ) where
   -- a step that is known is what the contract says
-  given : (t : List ℕ) (n : ℕ) → stepAfter before limits s (postingOf id area amount) ≡ record { answer = only n; bytes = t } → CalledAfter before limits s (postingOf id area amount) (only n) t
+  given : (t : List ℕ) (n : ℕ) → callAfter inBytes before limits s (postingOf id area amount) ≡ record { answer = only n; book = t } → CalledAfter before limits s (postingOf id area amount) (only n) t
   given t n e = called (postingOf id area amount) refl e
 
   -- what is asked after the entry
@@ -49,29 +49,29 @@ module _ (before : ℕ) (limits : Limits) (s : List ℕ) (id area : ℕ) (amount
   refused {n} e h = given s n (call-refused before limits s id rest (postingOf id area amount) own e h)
 
   module _ {place : ℕ} (o : before ≡ 0) (f : Found s id place) where
-    found-step : stepAfter before limits s (postingOf id area amount)
-        ≡ decided (refusal rest) (λ n. record { answer = only n; bytes = s }) (inBytes (effect limits (bookOf s) (postingOf id area amount)))
+    found-step : callAfter inBytes before limits s (postingOf id area amount)
+        ≡ after (refusal rest) (λ n. record { answer = only n; book = s }) (resultIn inBytes (effect limits (bookOf s) (postingOf id area amount)))
     found-step = call-found before limits s id rest (postingOf id area amount) own o f
 
     -- no such area
     no-area : 2 < area → CalledAfter before limits s (postingOf id area amount) (only 10) s
-    unfolding rest entryInRange refusal decided
+    unfolding rest entryInRange refusal after
     no-area h = given s 10 (found-step ∙ rw (le-ltb area 3 h))
 
     -- the new entry is out of range
     out-of-range : area < 3 → within 1000000 (at (find (usersOf s) id .physical) area +ℤ amount) ≡ false → CalledAfter before limits s (postingOf id area amount) (only 10) s
-    unfolding rest entryInRange refusal decided
+    unfolding rest entryInRange refusal after
     out-of-range k w = given s 10 (found-step ∙ rw (lt-ltb area 3 k, w))
 
     -- accepted: the user's record is changed where it stands
     accepted : AllBytes s → area < 3 → within 1000000 (at (find (usersOf s) id .physical) area +ℤ amount) ≡ true
         → CalledAfter before limits s (postingOf id area amount) (only 0) (sets s (userAt s place) (userBytes (posted area amount (find (usersOf s) id))))
-    unfolding rest entryInRange refusal decided inBytes effect bookOf posted
+    unfolding rest entryInRange refusal after resultIn effect bookOf posted
     accepted bytes k w =
         given _ 0
         (found-step
         ∙ rw (lt-ltb area 3 k, w, f .stands)
-        (ap (λ (l : List ℕ). record { answer = only 0; bytes = l })
+        (ap (λ (l : List ℕ). record { answer = only 0; book = l })
         (changed-bytes s bytes (passed s (f .passes)) id (posted area amount) (rw (f .stands) at (f .known)) refl)))
 
 -- ---- at a place

@@ -1,5 +1,5 @@
 -- What is asked of the user at a place is what the rules ask: the level, whether it is called in, the number of the questions 9, 11 and 13, and the target. Assumes nothing.
-use Rattle.base.specs.Basics.{_≡_, refl, sym, ap, subst, _∙_, _⊎_, inl, inr, Bool, true, false, cond, _&&_, _||_, some, List, [], _∷_, _++_, ℕ, _-_}
+use Rattle.base.specs.Basics.{_≡_, refl, sym, ap, subst, _∙_, _⊎_, inl, inr, Bool, true, false, cond, _&&_, _||_, List, [], _∷_, _++_, ℕ, _-_}
 use Rattle.base.specs.Basics.{_<_, arith, T, leb, ltb, length, getD, lt-ltb, le-ltb, le-leb}
 use Rattle.book_parties.specs.Ids.{idAt}
 use Rattle.laws_sales.specs.Parties.{cutBefore}
@@ -8,7 +8,7 @@ use Rattle.book_format.specs.Book.{bookOf, userCount, usersOf}
 use Rattle.risk_bearers.proofs.Borne.{id-in}
 use Rattle.risk_bearers.specs.Bearers.{RiskIn, tradesIn, usersIn}
 use Rattle.base.proofs.Linear.{by-order}
-use Rattle.laws.proofs.Refusals.{number-none, number-some, numbered, refusal-first, refusal-next}
+use Rattle.laws.proofs.Refusals.{after-nonzero, refusal-append, refusal-next}
 use Rattle.risk_user.proofs.Rules.{called-own, level-own, state-own}
 use Rattle.risk_user.specs.UserAt.{PositionsOf, flaggedAt, levelAt, targetOf}
 use Rattle.risk_user.specs.States.{stateBy}
@@ -17,8 +17,7 @@ use Rattle.rules.specs.Book.{Book, User, nobody}
 use Rattle.rules.specs.Calls.{assignedFallsShort, calledInBeyondMargin, isShipper}
 use Rattle.rules.specs.Day.{State, call, callDue, clear, quiet, short, state}
 use Rattle.rules.specs.Levels.{Limits, afternoonLevel, calledIn, exceedsMargin, shipper, shortOfCover}
-use Rattle.base.specs.Lists.{all}
-use Rattle.rules.specs.Questions.{Question, numberOf, refusal}
+use Rattle.rules.specs.Questions.{Question, after, firstOf, refusal}
 use Rattle.rules.specs.Reduction.{target}
 use Rattle.call_questions.specs.Asked.{ShortfallOf, levelQuestions, refusedBy}
 
@@ -26,8 +25,8 @@ use Rattle.call_questions.specs.Asked.{ShortfallOf, levelQuestions, refu
 
 module _ (limits : Limits) (b : Book) (u : User) where
   -- the state says which of them refuses
-  state-refuses : refusedBy (state limits b u) ≡ numberOf (refusal (levelQuestions limits b u))
-  unfolding state shortOfCover callDue levelQuestions isShipper calledInBeyondMargin assignedFallsShort refusal numberOf
+  state-refuses : refusedBy (state limits b u) ≡ refusal (levelQuestions limits b u)
+  unfolding state shortOfCover callDue levelQuestions isShipper calledInBeyondMargin assignedFallsShort refusal after
   state-refuses =
       go (shipper u) (calledIn limits b u) (exceedsMargin limits (afternoonLevel limits b u) u) (ltb (u .party .assigned) (afternoonLevel limits b u)) (leb (afternoonLevel limits b u) (u .party .assigned))
       (by-order (u .party .assigned) (afternoonLevel limits b u)
@@ -36,7 +35,7 @@ module _ (limits : Limits) (b : Book) (u : User) where
     where
       go : (x c m a n : Bool) → (a ≡ true) ⊎ ((a ≡ false) × (n ≡ true))
           → refusedBy (cond x (cond ((x && c) && (m && a)) short (cond (c && (m && n)) call quiet)) clear)
-          ≡ numberOf (refusal (record { number = 9; holds = x } ∷ (record { number = 11; holds = m && c } ∷ (record { number = 13; holds = a } ∷ []))))
+          ≡ refusal (record { number = 9; holds = x } ∷ (record { number = 11; holds = m && c } ∷ (record { number = 13; holds = a } ∷ [])))
       go false c m a n h = refl
       go true true true true n h = refl
       go true true true false true h = refl
@@ -46,17 +45,14 @@ module _ (limits : Limits) (b : Book) (u : User) where
       go true false true a n h = refl
       go true false false a n h = refl
 
-  level-numbered : T (numbered (levelQuestions limits b u))
-  unfolding numbered levelQuestions isShipper calledInBeyondMargin assignedFallsShort all
-  level-numbered = tt
-
   -- what is asked after them: their number refuses
-  pub level-refused : {n asked : ℕ} (rest : List Question) → ShortfallOf limits b u n asked → (n ≡ 0 → ⊥) → refusal (levelQuestions limits b u ++ rest) ≡ some n
-  level-refused {n} rest q h = refusal-first (levelQuestions limits b u) rest n (number-some (refusal (levelQuestions limits b u)) n (q .number-is) h)
+  pub level-refused : {n asked : ℕ} (rest : List Question) → ShortfallOf limits b u n asked → (n ≡ 0 → ⊥) → refusal (levelQuestions limits b u ++ rest) ≡ n
+  level-refused rest q h =
+      refusal-append (levelQuestions limits b u) rest ∙ ap (λ (k : ℕ). firstOf k (refusal rest)) (sym (q .number-is)) ∙ after-nonzero (λ k. k) (refusal rest) h
 
   -- or the rest is asked
   pub level-passed : {n asked : ℕ} (rest : List Question) → ShortfallOf limits b u n asked → n ≡ 0 → refusal (levelQuestions limits b u ++ rest) ≡ refusal rest
-  level-passed rest q h = refusal-next (levelQuestions limits b u) rest (number-none (levelQuestions limits b u) level-numbered (sym (q .number-is) ∙ h))
+  level-passed rest q h = refusal-next (levelQuestions limits b u) rest (sym (q .number-is) ∙ h)
 
 -- ---- the user at a place
 
@@ -98,7 +94,7 @@ module _ {limits : Limits} {f : Prices} {s sums : List ℕ} (r : RiskIn limits f
   module _ {level : ℕ} {called : Bool} (le : level ≡ afternoonLevel limits (bookOf s) (getD (usersOf s) place nobody)) (ce : called ≡ calledIn limits (bookOf s) (getD (usersOf s) place nobody))
       {number : ℕ} {state : State} (ne : number ≡ refusedBy state) (se : state ≡ stateBy limits (getD (usersOf s) place nobody) level called) where
     -- the number is that of the questions
-    asked-number : number ≡ numberOf (refusal (levelQuestions limits (bookOf s) (getD (usersOf s) place nobody)))
+    asked-number : number ≡ refusal (levelQuestions limits (bookOf s) (getD (usersOf s) place nobody))
     asked-number = ne ∙ ap refusedBy (se ∙ state-own limits (bookOf s) user le ce) ∙ state-refuses limits (bookOf s) user
 
     -- and what is asked for is the target

@@ -4,7 +4,7 @@ use Rattle.rules.specs.Book.{Book, User}
 use Rattle.rules.specs.Calls.{assignedFallsShort, calledInBeyondMargin, isShipper}
 use Rattle.rules.specs.Day.{State, clear, short, call, quiet}
 use Rattle.rules.specs.Levels.{Limits, afternoonLevel}
-use Rattle.rules.specs.Questions.{Question, numberOf, refusal}
+use Rattle.rules.specs.Questions.{Question, refusal}
 use Rattle.rules.specs.Reduction.{target}
 
 -- the questions 9, 11 and 13
@@ -21,5 +21,5 @@ refusedBy quiet = 11
 
 -- their number, and the target where it is 0
 pub record ShortfallOf (limits : Limits) (b : Book) (u : User) (number asked : ℕ) : Type 0 where
-  pub number-is : number ≡ numberOf (refusal (levelQuestions limits b u))
+  pub number-is : number ≡ refusal (levelQuestions limits b u)
   pub target-is : number ≡ 0 → asked ≡ target limits b u

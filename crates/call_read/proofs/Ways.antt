@@ -1,18 +1,17 @@
 -- The operator reads what the questions of the book admit; who is not the operator reads nothing. Assumes nothing.
-use Rattle.base.specs.Basics.{_≡_, _∙_, ap, refl, sym, List, [], ℕ, _-_, suc, zero, arith, length, replicate, eq-eqb, ne-eqb}
-use Rattle.book_format.proofs.Formed.{bytes-numbered}
-use Rattle.book_format.specs.After.{after}
-use Rattle.book_format.specs.Questions.{aboutBytes, bookNumber}
+use Rattle.base.specs.Basics.{_≡_, _∙_, ap, refl, sym, List, [], ℕ, _-_, arith, length, replicate, eq-eqb, ne-eqb}
+use Rattle.book_format.specs.Questions.{bookNumber}
 use Rattle.book_image.specs.Image.{ImageRead, imageOf, imageSize, padded, readImage}
 use Rattle.book_tables.specs.Book.{blankBook}
 use Rattle.book_tables.specs.declared.Book.{Book}
 use Rattle.book_value.specs.Opened.{Opened}
-use Rattle.requests.proofs.Opened.{decided-after}
 use Rattle.rights.proofs.Operator.{operator-asked}
 use Rattle.rights.specs.Acting.{enteringNumber}
 use Rattle.rights.specs.Party.{matterBy, mayDo, operators, partyOf, rightNumber}
 use Rattle.rights.specs.Read.{ReadBy}
 use Rattle.call_read.specs.Image.{ImageReadBy, imageBy}
+use Rattle.rules.specs.Questions.{after, firstOf}
+use Rattle.laws.proofs.Refusals.{after-nonzero, second-zero}
 
 -- ---- the number
 
@@ -23,14 +22,11 @@ operator-number s party e = rw (eq-eqb party 4294967296 e) (operator-asked opera
 
 -- another's is never 0
 other-number : (s : List ℕ) (party : ℕ) → (party ≡ 4294967296 → ⊥) → enteringNumber (partyOf party) operators s ≡ 0 → ⊥
-unfolding enteringNumber rightNumber partyOf mayDo after
+unfolding enteringNumber rightNumber partyOf mayDo
 other-number s party n z =
-    let h : enteringNumber (partyOf party) operators s ≡ after (bookNumber s) (λ m. m) 26 = rw (ne-eqb party 4294967296 n) refl in
-    never (bookNumber s) (sym h ∙ z)
-  where
-    never : (m : ℕ) → after m (λ j. j) 26 ≡ 0 → ⊥
-    never zero e = omega (arith, e)
-    never (suc m) e = omega (arith, e)
+    let h : enteringNumber (partyOf party) operators s ≡ firstOf (bookNumber s) 26 = rw (ne-eqb party 4294967296 n) refl in
+    let right = second-zero (bookNumber s) 26 (sym h ∙ z) in
+    omega (arith, right)
 
 -- ---- as a struct
 
@@ -44,26 +40,18 @@ read-other {s} {party} n e k = record { asked = e; book = λ z. absurd (other-nu
 
 -- ---- as an image
 
-image-book : (s : List ℕ) → readImage s ≡ after (bookNumber s) (λ n. replicate imageSize 0) (imageOf s)
-unfolding readImage bookNumber
-image-book s = decided-after (λ n. replicate imageSize 0) (imageOf s) (aboutBytes s) (bytes-numbered s)
-
 pub image-operator : {s : List ℕ} {party number : ℕ} {image : List ℕ} → party ≡ 4294967296 → ImageRead s number image → ImageReadBy (partyOf party) s number image
-unfolding imageBy
+unfolding imageBy readImage bookNumber
 image-operator {s} {party} e o =
     let h = sym (operator-number s party e) in
     record {
       asked = o .asked ∙ h;
-      fields = o .fields ∙ image-book s ∙ ap (λ (n : ℕ). after n (λ m. replicate imageSize 0) (imageOf s)) h;
+      fields = o .fields ∙ ap (λ (n : ℕ). after n (λ m. replicate imageSize 0) (imageOf s)) h;
     }
 
 pub image-other : {s : List ℕ} {party number : ℕ} (lent : List ℕ) {image : List ℕ} → (party ≡ 4294967296 → ⊥) → length lent ≡ imageSize
     → number ≡ enteringNumber (partyOf party) (matterBy 4294967296) s → image ≡ padded (length lent) [] → ImageReadBy (partyOf party) s number image
-unfolding matterBy padded imageBy after
+unfolding matterBy padded imageBy
 image-other {s} {party} lent n l e k =
     let room : length lent - 0 ≡ imageSize = omega (arith, l) in
-    record { asked = e; fields = k ∙ ap (λ (m : ℕ). replicate m 0) room ∙ go (enteringNumber (partyOf party) operators s) (other-number s party n) }
-  where
-    go : (m : ℕ) → (m ≡ 0 → ⊥) → replicate imageSize 0 ≡ after m (λ i. replicate imageSize 0) (imageOf s)
-    go zero z = absurd (z refl)
-    go (suc m) z = refl
+    record { asked = e; fields = k ∙ ap (λ (m : ℕ). replicate m 0) room ∙ sym (after-nonzero (λ i. replicate imageSize 0) (imageOf s) (other-number s party n)) }

@@ -1,9 +1,9 @@
 -- Document 02, ask 9: a book read into an image by an acting party. "All else is the operator's": a shipper may have its own record, not the book. Assumes nothing.
 use Rattle.base.specs.Basics.{_≡_, List, ℕ, replicate}
 use Rattle.book_image.specs.Image.{imageOf, imageSize}
-use Rattle.book_format.specs.After.{after}
 use Rattle.rights.specs.Acting.{enteringNumber}
 use Rattle.rights.specs.Party.{Party, operators}
+use Rattle.rules.specs.Questions.{after}
 
 -- a refusal returns "every other field 0"
 unfoldable pub imageBy : Party → List ℕ → List ℕ

@@ -1,16 +1,12 @@
 -- The entry of a reduction in a lent log: the cuts of the user's own sales at the places of their trades are what each trade of the book loses; and the call with it. Assumes nothing.
-use Rattle.base.specs.Basics.{_≡_, refl, sym, ap, subst, _∙_, Bool, true, false, Option, none, some, List, [], _∷_, _++_, append-nil, ℕ, zero, suc}
-use Rattle.base.specs.Basics.{_+_, _-_, _≤_, arith, T, ltb, ltb→lt, length, getD, sets, ltb-true}
-use Rattle.base.proofs.Tests.{all-append}
-use Rattle.base.specs.Lists.{all}
+use Rattle.base.specs.Basics.{_≡_, refl, sym, ap, subst, _∙_, Bool, true, false, some, List, [], _∷_, _++_, append-nil, ℕ, zero, suc}
+use Rattle.base.specs.Basics.{_+_, _-_, _≤_, arith, T, length, getD, sets, ltb-true}
 use Rattle.book_format.proofs.Passed.{length-tradesOf}
-use Rattle.book_format.specs.After.{after, stepAfter, unchanged}
 use Rattle.book_format.specs.Book.{bookOf, usersOf}
-use Rattle.book_format.specs.Steps.{InBytes, inBytes}
+use Rattle.book_format.specs.Steps.{inBytes}
 use Rattle.cut_lists.proofs.Own.{own-origins}
 use Rattle.cut_tiers.specs.Tiers.{cutsOf}
 use Rattle.fields.specs.Field.{AllBytes}
-use Rattle.laws.proofs.Refusals.{numbered, refusal-is}
 use Rattle.laws_sales.specs.Borne.{borneBook}
 use Rattle.laws_sales.specs.Groups.{places}
 use Rattle.laws_sales.specs.Parts.{part}
@@ -22,14 +18,13 @@ use Rattle.log_format.specs.Fits.{logFits}
 use Rattle.log_format.specs.Log.{entriesOf, entryCount, logBytes}
 use Rattle.log_format.specs.Noted.{callEntered, entryOf, hasRoom, lastly, room}
 use Rattle.log_lent.specs.Lent.{NotableIn, NotedLent, roomIn}
-use Rattle.requests.proofs.Emptied.{about-numbered}
 use Rattle.requests.specs.Request.{Outcome, asBytes, enteredIn, loggedAfter, refusedGiven}
 use Rattle.rules.specs.Areas.{Prices}
 use Rattle.risk_user.proofs.Borne.{party-borne}
 use Rattle.rules.specs.Book.{Party, User, find, nobody}
-use Rattle.rules.specs.Calls.{Answer, about, effect, ofCuts, only, reduced, reducedBy, reduction}
+use Rattle.rules.specs.Calls.{Answer, Result, about, callAfter, effect, ofCuts, only, reduced, reducedBy, reduction, resultIn, unchanged}
 use Rattle.rules.specs.Levels.{Limits}
-use Rattle.rules.specs.Questions.{Question, decided, refusal}
+use Rattle.rules.specs.Questions.{Question, after, refusal}
 use Rattle.rules.specs.Reduction.{cuts}
 use Rattle.run_reduction.proofs.Steps.{cut-within, cuts-own, cuts-room, part-few, part-rises, sales-in}
 use Rattle.run_reduction.specs.Books.{Listed}
@@ -39,6 +34,7 @@ use Rattle.call_reduction.specs.Call.{Gives, roomAsked}
 use Rattle.call_reduction.specs.Log.{ReducedWith, notedBy}
 use Rattle.call_reduction.proofs.Cuts.{inside-users, lost, user-reached, user-run}
 use Rattle.call_reduction.proofs.Ways.{stepWith}
+use Rattle.laws.proofs.Refusals.{after-nonzero}
 
 -- ---- what each trade loses
 
@@ -101,13 +97,9 @@ module _ {f : Prices} {s : List ℕ} {place : ℕ} {sellers buyers ps : List ℕ
 
 -- a refused reduction leaves the log
 pub noted-refused : (lent : Bool) (loss s t l : List ℕ) {n : ℕ} {a : Answer} → (n ≡ 0 → ⊥) → a ≡ only n → l ≡ notedBy lent (a .number) loss s t l
-unfolding notedBy only after
+unfolding notedBy only
 noted-refused false loss s t l h e = refl
-noted-refused true loss s t l {n} h e = rw e (go n h)
-  where
-    go : (k : ℕ) → (k ≡ 0 → ⊥) → l ≡ after k (λ i. l) (logBytes (loss ∷ entriesOf s l) t)
-    go zero h = absurd (h refl)
-    go (suc k) h = refl
+noted-refused true loss s t l h e = rw e (sym (after-nonzero (λ i. l) (logBytes (loss ∷ entriesOf s l) t) h))
 
 -- ---- the call
 
@@ -116,30 +108,22 @@ module _ (number : ℕ) (limits : Limits) (l s : List ℕ) (id : ℕ) where
   entry = entryOf limits (bookOf s) (find (bookOf s .users) id)
 
   -- what it gives without a log, with the entry noted
-  withNoted : InBytes → Outcome (List ℕ)
-  withNoted x = record { answer = x .answer; numbers = []; book = x .bytes; log = some (after (x .answer .number) (λ n. l) (logBytes (entry ∷ entriesOf s l) (x .bytes))) }
+  withNoted : Result (List ℕ) → Outcome (List ℕ)
+  withNoted x = record { answer = x .answer; numbers = []; book = x .book; log = some (after (x .answer .number) (λ n. l) (logBytes (entry ∷ entriesOf s l) (x .book))) }
 
-  asks : List Question
-  asks = about limits (bookOf s) (reduction id) ++ (hasRoom (room l) ∷ [])
-
-  asks-numbered : T (numbered asks)
-  unfolding numbered asks hasRoom all
-  asks-numbered = all-append (λ q. ltb 0 (q .number)) (about limits (bookOf s) (reduction id)) (hasRoom (room l) ∷ []) (about-numbered limits (bookOf s) (reduction id)) tt
-
-  noted-decided : (o : Option ℕ) → refusal asks ≡ o
-      → decided o (refusedGiven (some l) s) (enteredIn asBytes (callEntered limits (room l) (entriesOf s l) (bookOf s) (reduction id))) ≡ withNoted (decided o (unchanged s) (inBytes (effect limits (bookOf s) (reduction id))))
-  unfolding decided enteredIn callEntered inBytes refusedGiven unchanged withNoted only after effect reduced reducedBy ofCuts numbered
-  noted-decided none k = refl
-  noted-decided (some zero) k = absurd (let n = ltb→lt 0 0 (refusal-is (λ i. ltb 0 i) asks 0 asks-numbered k) in omega arith)
-  noted-decided (some (suc n)) k = refl
+  noted-asked : (n : ℕ)
+      → after n (refusedGiven (some l) s) (enteredIn asBytes (callEntered limits (room l) (entriesOf s l) (bookOf s) (reduction id))) ≡ withNoted (after n (unchanged s) (resultIn inBytes (effect limits (bookOf s) (reduction id))))
+  unfolding after enteredIn callEntered resultIn refusedGiven unchanged withNoted only effect reduced reducedBy ofCuts
+  noted-asked zero = refl
+  noted-asked (suc n) = refl
 
   noted-after : (n : ℕ) → loggedAfter asBytes n limits l s (reduction id) ≡ withNoted (stepWith (hasRoom (room l) ∷ []) n limits s id)
-  unfolding loggedAfter stepWith after refusedGiven unchanged withNoted only lastly asks
+  unfolding loggedAfter stepWith after refusedGiven unchanged withNoted only lastly
   noted-after (suc n) = refl
-  noted-after zero = noted-decided (refusal asks) refl
+  noted-after zero = noted-asked (refusal (about limits (bookOf s) (reduction id) ++ (hasRoom (room l) ∷ [])))
 
-  step-without : (n : ℕ) → stepWith [] n limits s id ≡ stepAfter n limits s (reduction id)
-  unfolding stepWith stepAfter
+  step-without : (n : ℕ) → stepWith [] n limits s id ≡ callAfter inBytes n limits s (reduction id)
+  unfolding stepWith callAfter
   step-without n = rw (append-nil (about limits (bookOf s) (reduction id)))
 
   pub reduced-with : (lent : Bool) {a : Answer} {t m : List ℕ} → Gives (stepWith (roomAsked lent l) number limits s id) a t
@@ -148,7 +132,7 @@ module _ (number : ℕ) (limits : Limits) (l s : List ℕ) (id : ℕ) where
   reduced-with false g h =
       let e = step-without number in
       record {
-        without = λ x. record { answer = g .answer ∙ ap (λ (y : InBytes). y .answer) e; bytes = g .bytes ∙ ap (λ (y : InBytes). y .bytes) e };
+        without = λ x. record { answer = g .answer ∙ ap (λ (y : Result (List ℕ)). y .answer) e; bytes = g .bytes ∙ ap (λ (y : Result (List ℕ)). y .book) e };
         stays = λ x. h;
         within = λ x. absurd (subst T (sym x) tt);
       }

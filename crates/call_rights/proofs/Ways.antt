@@ -1,8 +1,7 @@
 -- Whether the user of an id is a shipper of the book, and the number of question 26 by what the code compares. Assumes nothing.
-use Rattle.base.specs.Basics.{_≡_, _∙_, ap, refl, sym, Bool, true, false, cond, List, ℕ, suc, zero, _≤_, eqb, getD, eq-eqb, ne-eqb}
+use Rattle.base.specs.Basics.{_≡_, _∙_, ap, refl, sym, Bool, true, false, cond, List, ℕ, _≤_, eqb, getD, eq-eqb, ne-eqb}
 use Rattle.base.proofs.Tests.{by-case}
 use Rattle.book_format.proofs.OneUser.{find-place, known-place, unknown-place}
-use Rattle.book_format.specs.After.{after}
 use Rattle.book_format.specs.Book.{bookOf, userCount, usersOf}
 use Rattle.book_format.specs.Questions.{bookNumber}
 use Rattle.book_format.specs.Steps.{placeOf}
@@ -11,9 +10,10 @@ use Rattle.book_records.specs.User.{alone, asUser}
 use Rattle.book_records.specs.declared.User as code
 use Rattle.rules.specs.Book.{User, find, nobody}
 use Rattle.rules.specs.Levels.{shipper}
-use Rattle.rules.specs.Questions.{known}
+use Rattle.rules.specs.Questions.{after, firstOf, known}
 use Rattle.rights.specs.Acting.{enteringNumber}
 use Rattle.rights.specs.Party.{partyOf, isShipperIn, matterBy, mayDo, rightNumber}
+use Rattle.laws.proofs.Refusals.{after-nonzero}
 
 -- ---- a shipper of the book
 
@@ -37,21 +37,17 @@ module _ (s : List ℕ) (party matter : ℕ) where
 
   -- a question of the book refuses
   pub asked-refused : {asked : ℕ} → asked ≡ bookNumber s → (asked ≡ 0 → ⊥) → asked ≡ enteringNumber (partyOf party) (matterBy matter) s
-  unfolding after enteringNumber
-  asked-refused {asked} e h =
-      go asked h (rightNumber (bookOf s) (partyOf party) (matterBy matter))
-      ∙ ap (λ (n : ℕ). after n (λ k. k) (rightNumber (bookOf s) (partyOf party) (matterBy matter))) e
-    where
-      go : (n : ℕ) → (n ≡ 0 → ⊥) → (m : ℕ) → n ≡ after n (λ k. k) m
-      go zero k m = absurd (k refl)
-      go (suc n) k m = refl
+  unfolding enteringNumber
+  asked-refused e h =
+      let own = rightNumber (bookOf s) (partyOf party) (matterBy matter) in
+      sym (after-nonzero (λ k. k) own h) ∙ ap (λ (n : ℕ). firstOf n own) e
 
   -- none does
   asked-right : {may : Bool} → bookNumber s ≡ 0 → may ≡ right → cond may 0 26 ≡ enteringNumber (partyOf party) (matterBy matter) s
   unfolding right after rightNumber enteringNumber
   asked-right z e =
       ap (λ (c : Bool). cond c 0 26) e
-      ∙ ap (λ (n : ℕ). after n (λ k. k) (cond (mayDo (bookOf s) (partyOf party) (matterBy matter)) 0 26)) (sym z)
+      ∙ ap (λ (n : ℕ). firstOf n (cond (mayDo (bookOf s) (partyOf party) (matterBy matter)) 0 26)) (sym z)
 
   -- the operator
   pub for-operator : bookNumber s ≡ 0 → party ≡ 4294967296 → 0 ≡ enteringNumber (partyOf party) (matterBy matter) s

@@ -4,9 +4,8 @@ use mathlib.Core.Path.{_≡_}
 use Prim.Native.Nat.{ℕ}
 use Rattle.call_entry.proofs.Asked.{entry-found, entry-refused}
 use Rattle.call_entry.specs.Entered.{Entered, Found}
-use Rattle.book_format.specs.After.{after}
 use Rattle.rules.specs.Queries.{aboutQuery}
-use Rattle.rules.specs.Questions.{decided, refusal}
+use Rattle.rules.specs.Questions.{after, refusal}
 use Rattle.call_show.specs.Shown.{showing}
 
 module _ (s : List ℕ) (id : ℕ) {R : Type 0} (f : ℕ → R) (x : R) where
@@ -15,5 +14,5 @@ module _ (s : List ℕ) (id : ℕ) {R : Type 0} (f : ℕ → R) (x : R) where
   show-refused {opened} {n} e h = entry-refused s id [] f x opened n (e .asked) h
 
   pub show-found : {opened place : ℕ} → opened ≡ 0 → Found s id place → showing opened s id f x ≡ x
-  unfolding showing aboutQuery after decided refusal
+  unfolding showing aboutQuery after refusal
   show-found o k = rw (o, entry-found s id [] k)

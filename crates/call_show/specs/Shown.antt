@@ -4,9 +4,8 @@ use mathlib.Core.Bool.{Bool, cond}
 use mathlib.Core.List.{List, []}
 use Prim.Native.Nat.{ℕ, _+_}
 use lib.ListN.{drop, take}
-use Rattle.rules.specs.Questions.{refusal, numberOf, decided}
+use Rattle.rules.specs.Questions.{after, firstOf, refusal}
 use Rattle.rules.specs.Queries.{shownRecord, aboutQuery}
-use Rattle.book_format.specs.After.{after}
 use Rattle.book_format.specs.Book.{bookOf, userAt, userSize, versionOf}
 use Rattle.book_format.specs.Steps.{placeOf}
 
@@ -14,11 +13,11 @@ use Rattle.book_format.specs.Steps.{placeOf}
 
 -- what follows where no question refuses, else what a refusal gives
 unfoldable pub showing : {R : Type 0} → ℕ → List ℕ → ℕ → (ℕ → R) → R → R
-showing opened s id refused found = after opened refused (decided (refusal (aboutQuery (bookOf s) (shownRecord id))) refused found)
+showing opened s id refused found = after opened refused (after (refusal (aboutQuery (bookOf s) (shownRecord id))) refused found)
 
 -- the number, and the bytes of the user's record or the empty part
 pub record ShownAfter (opened : ℕ) (s : List ℕ) (id number : ℕ) (part : List ℕ) : Type 0 where
-  pub asked : number ≡ after opened (λ n. n) (numberOf (refusal (aboutQuery (bookOf s) (shownRecord id))))
+  pub asked : number ≡ firstOf opened (refusal (aboutQuery (bookOf s) (shownRecord id)))
   pub shows : part ≡ showing opened s id (λ n. []) (take (userSize (versionOf s)) (drop (userAt s (placeOf (bookOf s .users) id)) s))
 
 -- the part points into the block of the book, at the record's offset

@@ -1,13 +1,10 @@
 -- Questions 8 and 9 after the opening questions, and what is told by their number. Assumes nothing.
-use Rattle.base.specs.Basics.{_≡_, _∙_, ap, refl, sym, Option, none, some, List, [], _∷_, ℕ, suc, zero, _<_, arith, ltb, ltb→lt, eq-eqb, ne-eqb}
-use Rattle.base.specs.Lists.{all}
-use Rattle.laws.proofs.Refusals.{numbered, refusal-is}
+use Rattle.base.specs.Basics.{_≡_, _∙_, ap, sym, List, [], _∷_, ℕ, _<_, arith, eq-eqb, ne-eqb}
 use Rattle.book_format.proofs.OneUser.{known-place}
 use Rattle.rules.specs.Book.{find}
 use Rattle.rules.specs.Calls.{idKnown, isShipper}
 use Rattle.rules.specs.Levels.{Limits, shipper}
-use Rattle.rules.specs.Questions.{decided, numberOf, refusal}
-use Rattle.book_format.specs.After.{after}
+use Rattle.rules.specs.Questions.{after, firstOf, refusal}
 use Rattle.book_format.proofs.Passed.{passed}
 use Rattle.book_format.specs.Book.{bookOf, usersOf}
 use Rattle.views.proofs.Told.{known-above}
@@ -15,17 +12,13 @@ use Rattle.call_entry.proofs.Asked.{entry-found, entry-refused}
 use Rattle.call_entry.specs.Entered.{Entered, Found}
 use Rattle.rights.specs.Trades.{Asking, aboutUser, idOf, tells, toldAfter, toldNumber}
 use Rattle.call_told.specs.Told.{ShipperFound}
+use Rattle.laws.proofs.Refusals.{after-first, after-nonzero, after-passed, first-alone}
 
 -- ---- 8 and 9
 
-number-decided : (o : Option ℕ) → decided o (λ n. n) 0 ≡ numberOf o
-unfolding decided numberOf
-number-decided none = refl
-number-decided (some n) = refl
-
 module _ (s : List ℕ) (id : ℕ) where
   asks : ℕ → ℕ
-  asks before = after before (λ n. n) (numberOf (refusal (aboutUser (bookOf s) id)))
+  asks before = firstOf before (refusal (aboutUser (bookOf s) id))
 
   -- refused by the opening questions or by 8
   pub seek-refused : {before n place : ℕ} → Entered before s id n place → (n ≡ 0 → ⊥) → ShipperFound before s id n 0
@@ -34,25 +27,25 @@ module _ (s : List ℕ) (id : ℕ) where
       let u = find (bookOf s .users) id in
       let asked = refusal (idKnown (bookOf s) id ∷ (isShipper u ∷ [])) in
       record {
-        asked = sym (ap (λ (k : ℕ). after before (λ m. m) k) (sym (number-decided asked)) ∙ entry-refused s id (isShipper u ∷ []) (λ m. m) 0 before n (e .asked) h);
+        asked = sym (ap (firstOf before) (sym (first-alone asked)) ∙ entry-refused s id (isShipper u ∷ []) (λ m. m) 0 before n (e .asked) h);
         start = λ z. absurd (h z);
         found = λ z. absurd (h z);
       }
 
   module _ {before place : ℕ} (o : before ≡ 0) (f : Found s id place) where
     -- by 9 alone
-    by-nine : asks before ≡ numberOf (refusal (isShipper (find (bookOf s .users) id) ∷ []))
+    by-nine : asks before ≡ refusal (isShipper (find (bookOf s .users) id) ∷ [])
     unfolding asks after aboutUser
     by-nine = rw (o, entry-found s id (isShipper (find (bookOf s .users) id) ∷ []) f)
 
     pub seek-house : (find (bookOf s .users) id .party .role ≡ 0 → ⊥) → ShipperFound before s id 9 0
-    unfolding asks isShipper shipper refusal numberOf
+    unfolding asks isShipper shipper refusal after
     seek-house h =
         let e : asks before ≡ 9 = by-nine ∙ rw (ne-eqb (find (bookOf s .users) id .party .role) 0 h) in
         record { asked = sym e; start = λ z. absurd (omega (arith, z)); found = λ z. absurd (omega (arith, z)) }
 
     pub seek-found : find (bookOf s .users) id .party .role ≡ 0 → ShipperFound before s id 0 place
-    unfolding asks isShipper shipper refusal numberOf
+    unfolding asks isShipper shipper refusal after
     seek-found h =
         let e : asks before ≡ 0 = by-nine ∙ rw (eq-eqb (find (bookOf s .users) id .party .role) 0 h) in
         record { asked = sym e; start = λ z. o; found = λ z. f }
@@ -66,26 +59,13 @@ found-above {s} {id} f = known-above (usersOf s) 0 id (passed s (f .passes) .sou
 
 module _ (opened : ℕ) (s : List ℕ) (a : Asking) where
   pub told-by-number : {number place : ℕ} → ShipperFound opened s (idOf a) number place → (limits : Limits) → toldAfter opened limits s a ≡ after number toldNumber (tells limits s a)
-  unfolding toldAfter after decided numberOf numbered aboutUser idKnown isShipper all
-  told-by-number {number} f limits =
-      go opened (refusal (aboutUser (bookOf s) (idOf a))) refl ∙ ap (λ (n : ℕ). after n toldNumber (tells limits s a)) (sym (f .asked))
-    where
-      go : (n : ℕ) (o : Option ℕ) → refusal (aboutUser (bookOf s) (idOf a)) ≡ o
-          → after n toldNumber (decided o toldNumber (tells limits s a)) ≡ after (after n (λ m. m) (numberOf o)) toldNumber (tells limits s a)
-      go (suc n) o h = refl
-      go zero none h = refl
-      go zero (some zero) h = absurd (let l = ltb→lt 0 0 (refusal-is (λ i. ltb 0 i) (aboutUser (bookOf s) (idOf a)) 0 tt h) in omega arith)
-      go zero (some (suc n)) h = refl
+  unfolding toldAfter
+  told-by-number f limits =
+      sym (after-first opened (refusal (aboutUser (bookOf s) (idOf a))) toldNumber (tells limits s a)) ∙ ap (λ (n : ℕ). after n toldNumber (tells limits s a)) (sym (f .asked))
 
   module _ {number place : ℕ} (f : ShipperFound opened s (idOf a) number place) (limits : Limits) where
     pub told-refused : (number ≡ 0 → ⊥) → toldNumber number ≡ toldAfter opened limits s a
-    unfolding after
-    told-refused h = go number h ∙ sym (told-by-number f limits)
-      where
-        go : (n : ℕ) → (n ≡ 0 → ⊥) → toldNumber n ≡ after n toldNumber (tells limits s a)
-        go zero k = absurd (k refl)
-        go (suc n) k = refl
+    told-refused h = sym (told-by-number f limits ∙ after-nonzero toldNumber (tells limits s a) h)
 
     pub told-found : number ≡ 0 → tells limits s a ≡ toldAfter opened limits s a
-    unfolding after
-    told-found z = sym (told-by-number f limits ∙ ap (λ (n : ℕ). after n toldNumber (tells limits s a)) z)
+    told-found z = sym (told-by-number f limits ∙ after-passed toldNumber (tells limits s a) z)

@@ -20,7 +20,7 @@ use Rattle.book_parties.specs.Ids.{BookIn, PlacedOn, idsOf, placeIn}
 use Rattle.rules.specs.Book.{Terms, Trade, User, find, noTrade, nobody}
 use Rattle.rules.specs.Levels.{Limits}
 use Rattle.base.proofs.Tests.{and-l, and-r}
-use Rattle.rules.specs.Questions.{amountsValid, codesValid, known, partiesValid, tradeValid}
+use Rattle.rules.specs.Questions.{after, amountsValid, codesValid, known, partiesValid, tradeValid}
 use Rattle.rights.proofs.Parts.{records-parts}
 use Rattle.rights.specs.Seen.{tradesShown}
 use Rattle.rights.specs.Trades.{Told, idOf, tells, toldAfter, toldNumber, tradeShownAt, tradeStart}
@@ -30,7 +30,6 @@ use Rattle.rules.specs.Bearers.{asBorne, bearer}
 use Rattle.laws_sales.specs.Kept.{kept}
 use Rattle.views.specs.Kept.{placeKept}
 use Rattle.views.specs.Views.{seesTrade}
-use Rattle.book_format.specs.After.{after}
 use Rattle.call_told.proofs.Asked.{told-found, told-refused}
 use Rattle.call_told.specs.Seen.{seesAt, standsFor}
 use Rattle.call_told.specs.Told.{ShipperFound, TradeAfter}

@@ -1,27 +1,16 @@
--- The answers of the flag and of the count of trades, and a trade by ordinal, after the opening questions, by their number. Assumes nothing.
-use Rattle.base.specs.Basics.{_≡_, false, List, [], ℕ, _+_}
-use Rattle.book_format.specs.After.{after}
+-- The user that flag and trades are told of, and a trade by ordinal, after the opening questions, by their number. Assumes nothing.
+use Rattle.base.specs.Basics.{_≡_, List, ℕ, _+_}
 use Rattle.book_format.specs.Book.{bookOf}
 use Rattle.call_entry.specs.Entered.{Found}
-use Rattle.rights.specs.Trades.{Told, aboutUser, toldAfter, tradeOf, tradeShownAt}
+use Rattle.rights.specs.Trades.{aboutUser, toldAfter, tradeOf, tradeShownAt}
 use Rattle.rules.specs.Levels.{Limits}
-use Rattle.rules.specs.Questions.{numberOf, refusal}
-use Rattle.call_told.specs.declared.CountAnswer.{CountAnswer}
-use Rattle.call_told.specs.declared.FlagAnswer.{FlagAnswer}
-
--- ---- answers
-
-unfoldable pub flagTold : FlagAnswer → Told
-flagTold r = record { number = r .number; flagged = r .flagged; count = 0; part = [] }
-
-unfoldable pub countTold : CountAnswer → Told
-countTold r = record { number = r .number; flagged = false; count = r .count; part = [] }
+use Rattle.rules.specs.Questions.{firstOf, refusal}
 
 -- ---- 8 and 9
 
 -- the number of the opening questions, or of 8 and 9 after them; where it is 0 the user is found, and a shipper
 pub record ShipperFound (before : ℕ) (s : List ℕ) (id number place : ℕ) : Type 0 where
-  pub asked : number ≡ after before (λ n. n) (numberOf (refusal (aboutUser (bookOf s) id)))
+  pub asked : number ≡ firstOf before (refusal (aboutUser (bookOf s) id))
   pub start : number ≡ 0 → before ≡ 0
   pub found : number ≡ 0 → Found s id place
 

@@ -1,5 +1,7 @@
 // What a shipper is told of itself beside its record and its levels: whether it is flagged, how many trades it may see, and each of them by
 // ordinal, as that part of the lent book.
+use call_answers::CountAnswer;
+use call_answers::FlagAnswer;
 use call_entry::Entry;
 use units::Limits;
 ghost use mathlib.Core.Bool.{cond};
@@ -17,20 +19,9 @@ ghost use Rattle.book_questions.specs.Opened.{OpenedFigures, OpenedParties};
 ghost use Rattle.views.specs.Kept.{placeKept};
 ghost use Rattle.views.specs.Views.{seesTrade, tradesSeen};
 ghost use Rattle.rights.specs.Trades.{countOf, flagOf, toldAfter};
+ghost use Rattle.call_answers.specs.Told.{countTold, flagTold};
 ghost use Rattle.call_told.specs.Seen.{seesAt, standsFor};
-ghost use Rattle.call_told.specs.Told.{ShipperFound, TradeAfter, countTold, flagTold};
-
-// Whether a user is flagged.
-pub struct FlagAnswer {
-    pub number: u32,
-    pub flagged: bool,
-}
-
-// How many trades a user may see.
-pub struct CountAnswer {
-    pub number: u32,
-    pub count: u32,
-}
+ghost use Rattle.call_told.specs.Told.{ShipperFound, TradeAfter};
 
 // ---- the user
 

@@ -12,8 +12,8 @@ use Rattle.rules.specs.Book.{Book, nobody}
 use Rattle.rules.specs.Levels.{Limits}
 use Rattle.user_levels.specs.Levels as rows
 use Rattle.user_levels.specs.Levels.{levelsOf, noLevels, noUser, userRows}
-use Rattle.call_users.specs.Rows.{asRow}
-use Rattle.call_users.specs.declared.UserLevels.{UserLevels}
+use Rattle.call_answers.specs.Levels.{asRow}
+use Rattle.call_answers.specs.declared.UserLevels.{UserLevels}
 
 -- ---- the users of an accepted book
 

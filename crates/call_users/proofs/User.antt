@@ -5,7 +5,7 @@ use Rattle.book_format.specs.Places.{UserIn}
 use Rattle.rules.specs.Book.{Book, User}
 use Rattle.rules.specs.Day.{State, clear, printedLevel, state}
 use Rattle.rules.specs.Levels.{Limits, afternoonLevel, morningLevel, shipper}
-use Rattle.book_format.specs.After.{after}
+use Rattle.rules.specs.Questions.{after}
 use Rattle.user_levels.specs.Levels.{AllLevels, UserLevels, levelsAfter, levelsIn, levelsOf, noLevels, userRows}
 use Rattle.book_questions.specs.Opened.{OpenedFigures}
 

@@ -1,6 +1,8 @@
 // The levels and the state of every user of a lent book in bytes, after one asking of its questions: user by user what the calls for its
 // id tell. It changes no book.
 use book_records::User;
+use call_answers::LevelsAnswer;
+use call_answers::UserLevels;
 use risk_holdings::Holdings;
 use risk_user::Day;
 use risk_user::State;
@@ -25,22 +27,7 @@ ghost use Rattle.laws_sales.specs.Parties.{cutBefore};
 ghost use Rattle.risk_members.specs.Members.{HoldingsOf};
 ghost use Rattle.risk_user.specs.States.{stateOf};
 ghost use Rattle.user_levels.specs.Levels.{levelsAfter, levelsOf, noLevels, userRows};
-ghost use Rattle.call_users.specs.Rows.{asRow, levelsTold};
-
-// A user's id, its state, and its morning and its afternoon level, which are 0 of a clearing house.
-pub struct UserLevels {
-    pub id: u32,
-    pub state: State,
-    pub morning: Cents,
-    pub afternoon: Cents,
-}
-
-// The users of a book in its order, with 0 in every field past the last, and 0; or 0 everywhere, and the number of the first question that
-// is answered by no.
-pub struct LevelsAnswer {
-    pub number: u32,
-    pub users: [UserLevels; 64],
-}
+ghost use Rattle.call_answers.specs.Levels.{asRow, levelsTold};
 
 // 64 places without a user.
 fn no_users() -> [UserLevels; 64]

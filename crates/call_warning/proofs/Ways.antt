@@ -7,8 +7,8 @@ use Rattle.rules.specs.Bearers.{asBorne, bearer}
 use Rattle.rules.specs.Book.{Book, Trade, User, bilateralForDay, find, nobody}
 use Rattle.rules.specs.Calls.{idKnown, isShipper}
 use Rattle.rules.specs.Levels.{Limits, buys, flagged, flaggedFrom, sellerOf, shipper}
-use Rattle.rules.specs.Queries.{aWarning, aboutQuery, found, onlyNumber, warned, warning, warns}
-use Rattle.rules.specs.Questions.{Question, decided, known, refusal, tradeValid}
+use Rattle.rules.specs.Queries.{aWarning, aboutQuery, found, onlyNumber, replyAfter, warned, warning, warns}
+use Rattle.rules.specs.Questions.{Question, after, known, refusal, tradeValid}
 use Rattle.laws.proofs.Managers.{bearer-known}
 use Rattle.laws.proofs.Positions.{seller-known}
 use Rattle.laws.proofs.Settle.{area-lt}
@@ -22,7 +22,6 @@ use Rattle.book_format.specs.Book.{bookOf, userCount, usersOf, versionOf}
 use Rattle.book_format.specs.Held.{Accepted}
 use Rattle.book_format.specs.Questions.{bookNumber}
 use Rattle.book_format.specs.Steps.{placeOf}
-use Rattle.book_format.specs.After.{replyAfter}
 use Rattle.book_format.proofs.OneUser.{find-place, unknown-place}
 use Rattle.book_format.proofs.Passed.{length-usersOf}
 use Rattle.call_entry.proofs.Calls.{query-found, query-refused}
@@ -125,17 +124,17 @@ module _ (before : ℕ) (limits : Limits) (s : List ℕ) (id : ℕ) where
   unfolding aboutQuery rest
   own = refl
 
-  pub warning-refused : {n place : ℕ} → Entered before s id n place → (n ≡ 0 → ⊥) → onlyNumber n ≡ replyAfter before limits s (warning id)
+  pub warning-refused : {n place : ℕ} → Entered before s id n place → (n ≡ 0 → ⊥) → onlyNumber n ≡ replyAfter before limits (bookOf s) (warning id)
   warning-refused e h = sym (query-refused before limits s id rest (warning id) own e h)
 
   module _ {place : ℕ} (o : before ≡ 0) (f : Found s id place) where
-    found-reply : replyAfter before limits s (warning id) ≡ decided (refusal rest) onlyNumber (found limits (bookOf s) (warning id))
+    found-reply : replyAfter before limits (bookOf s) (warning id) ≡ after (refusal rest) onlyNumber (found limits (bookOf s) (warning id))
     found-reply = query-found before limits s id rest (warning id) own o f
 
-    pub warning-of-house : (find (bookOf s .users) id .party .role ≡ 0 → ⊥) → onlyNumber 9 ≡ replyAfter before limits s (warning id)
-    unfolding rest isShipper shipper refusal decided
+    pub warning-of-house : (find (bookOf s .users) id .party .role ≡ 0 → ⊥) → onlyNumber 9 ≡ replyAfter before limits (bookOf s) (warning id)
+    unfolding rest isShipper shipper refusal after
     warning-of-house h = rw (found-reply, ne-eqb (find (bookOf s .users) id .party .role) 0 h)
 
-    pub warning-found : find (bookOf s .users) id .party .role ≡ 0 → aWarning (warned limits (bookOf s) (find (bookOf s .users) id)) ≡ replyAfter before limits s (warning id)
-    unfolding rest isShipper shipper refusal decided found
+    pub warning-found : find (bookOf s .users) id .party .role ≡ 0 → aWarning (warned limits (bookOf s) (find (bookOf s .users) id)) ≡ replyAfter before limits (bookOf s) (warning id)
+    unfolding rest isShipper shipper refusal after found
     warning-found h = rw (found-reply, eq-eqb (find (bookOf s .users) id .party .role) 0 h)

@@ -7,6 +7,7 @@ ghost use mathlib.Core.Path.{_≡_};
 ghost use lib.Dec.{T};
 ghost use Rattle.rules.specs.Book.{find};
 ghost use Rattle.rules.specs.Levels.{sellerOf};
+ghost use Rattle.rules.specs.Queries.{replyAfter};
 ghost use Rattle.rules.specs.Questions.{known, tradeValid};
 ghost use Rattle.base.specs.Lists.{any};
 ghost use Rattle.units.specs.Limits.{asLimits, LimitsInRange};
@@ -14,7 +15,6 @@ ghost use Rattle.book_records.specs.Trade.{asTrade};
 ghost use Rattle.book_format.specs.Book.{bookOf, usersOf};
 ghost use Rattle.book_format.specs.Held.{Accepted};
 ghost use Rattle.book_questions.specs.Opened.{OpenedFigures};
-ghost use Rattle.book_format.specs.After.{replyAfter};
 ghost use Rattle.call_answers.specs.Warning.{replyOf};
 ghost use Rattle.call_warning.specs.Warned.{Priced, flaggedShipper, warnsBuyer, warningOf};
 
@@ -90,7 +90,7 @@ fn any_warns(book: &[u8], prices: Prices, id: u32, limits: Limits) -> bool
 // The warning of the user of an id, after the opening questions, whose number is given.
 pub fn warning(book: &[u8], number: u32, limits: Limits, id: u32) -> WarningAnswer
     requires { ⌜ (number ≡ 0 → OpenedFigures (asLimits limits) (now book)) ⌝ }
-    ensures { λ r. ⌜ replyOf r ≡ replyAfter number (asLimits limits) (now (book .entry)) (warningOf id) ⌝ }
+    ensures { λ r. ⌜ replyOf r ≡ replyAfter number (asLimits limits) (bookOf (now (book .entry))) (warningOf id) ⌝ }
 {
     let entry = call_entry::seek(book, number, id);
     let number = entry.number;

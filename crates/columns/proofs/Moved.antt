@@ -3,9 +3,9 @@ use Prim.Native.Nat.{ℕ, zero, suc, _+_, _*_, _≤_}
 use mathlib.Core.{Path._≡_, Path.refl, Path.sym, Path.ap, Path.ap₂, Path._∙_, List.List, List.[], List._∷_, List._++_, List.map, List.append-assoc}
 use native.Mathlib.{Omega.arith, Nat.zero-add, Nat.mul-suc, Nat.add-mul}
 use lib.ListN.{length, take, drop, replicate, length-append, length-drop, length-map, length-replicate}
-use lib.Seq.{sets, sets-eq, length-sets, length-take-le, take-take, take-all, drop-drop}
+use lib.Seq.{sets, length-sets, length-take-le, take-take, take-all, drop-drop}
 use Rattle.fields.specs.Layout.{recordsOf, bytesOfRecords, size, Every}
-use Rattle.fields.proofs.{Records.length-recordsOf, Sets.sets-append, Sets.sets-left, Sets.sets-right, Sets.take-of-drop}
+use Rattle.fields.proofs.{Records.length-recordsOf, Sets.front-set, Sets.sets-append, Sets.sets-left, Sets.sets-right, Sets.take-of-drop}
 use Rattle.columns.specs.{Columns.byRecord, Columns.joined, Columns.recordWise, Moves.moved}
 use Rattle.columns.proofs.Columnar.{Sized, empties, empty-sized, joined-sized, length-joined, length-recordWise, parts-sized, parts-whole, shorter}
 
@@ -44,16 +44,12 @@ column-moved w o long (suc n) s base out to h k =
 
 -- ---- from columns to records
 
--- the first w bytes of a list replaced
-front-set : (w : ℕ) (q c : List ℕ) → length c ≡ w → w ≤ length q → sets q 0 c ≡ c ++ drop w q
-front-set w q c e h = sets-eq c q 0 (omega (arith, e)) ∙ rw (zero-add, e)
-
 -- a field that follows the front of a record is set, among other bytes
 field-set : (pre p q b c : List ℕ) (o w : ℕ) → length p ≡ o → length c ≡ w → w ≤ length q
     → sets (pre ++ ((p ++ q) ++ b)) (length pre + o) c ≡ (pre ++ ((p ++ c) ++ drop w q)) ++ b
 field-set pre p q b c o w e f h =
     let i : o ≡ length p + 0 = omega arith in
-    let one : sets (p ++ q) o c ≡ (p ++ c) ++ drop w q = ap (λ (k : ℕ). sets (p ++ q) k c) i ∙ sets-right c p q 0 ∙ ap (λ (t : List ℕ). p ++ t) (front-set w q c f h) ∙ sym (append-assoc p c (drop w q)) in
+    let one : sets (p ++ q) o c ≡ (p ++ c) ++ drop w q = ap (λ (k : ℕ). sets (p ++ q) k c) i ∙ sets-right c p q 0 ∙ ap (λ (t : List ℕ). p ++ t) (sym (front-set w q c f h refl)) ∙ sym (append-assoc p c (drop w q)) in
     sets-right c pre ((p ++ q) ++ b) o
     ∙ ap (λ (t : List ℕ). pre ++ t) (sets-left c (p ++ q) b o (rw length-append (omega (arith, e, f, h))) ∙ ap (λ (t : List ℕ). t ++ b) one)
     ∙ sym (append-assoc pre ((p ++ c) ++ drop w q) b)

@@ -2,9 +2,7 @@
 use Rattle.base.specs.Basics.{_≡_, _∙_, ap, ap₂, refl, sym, Bool, cond, Option, none, List, ℕ, suc, zero}
 use Rattle.rules.specs.Book.{Book}
 use Rattle.rules.specs.Queries.{Query}
-use Rattle.book_format.proofs.Passed.{passed}
-use Rattle.book_format.proofs.Written.{bookOf-bytesOf}
-use Rattle.book_format.specs.After.{after}
+use Rattle.rules.specs.Questions.{after}
 use Rattle.book_format.specs.Book.{bookOf}
 use Rattle.book_format.specs.Questions.{bookNumber}
 use Rattle.outputs.specs.Output.{Wrote}
@@ -15,11 +13,13 @@ use Rattle.rights.proofs.Logged.{passed-request, stopped-request}
 use Rattle.rights.proofs.Operator.{forbidden-claim, operator-claim, wrote-by}
 use Rattle.rights.specs.Acting.{cancellationBy, enquiryBy, enteringNumber, requestBy}
 use Rattle.rights.specs.Party.{Matter, Party, isShipperIn, matterOf, mayDo, operator, operators, own, rightNumber, shipperOf}
+use Rattle.rights.specs.Trades.{Asking, idOf, toldBy, toldIn}
 use Rattle.conversions.specs.Acting.{ConversionsBy, conversionBy}
 use Rattle.conversions.specs.Conversion.{aboutConversion, asVersion, conversion, conversionAfter, converted}
 use Rattle.conversions.specs.Statements.{Alike, Convertible}
-use Rattle.conversions.proofs.Conversions.{cancellations-alike, conversions, enquiries-alike}
-use Rattle.conversions.proofs.Kept.{sound-as}
+use Rattle.conversions.proofs.Conversions.{book-there, cancellations-alike, conversions, enquiries-alike, levels-alike}
+use Rattle.conversions.proofs.Told.{told-alike}
+use Rattle.user_levels.specs.Levels.{allLevelsAfter, allLevelsBy}
 
 -- what the public call cites: from the number of its questions up to 26 and the contract of the inner function
 pub conversion-by : (actor : Party) (version : ℕ) (s out : List ℕ) {number result : ℕ} {left : List ℕ} → number ≡ enteringNumber actor operators s
@@ -39,14 +39,10 @@ module _ {v : ℕ} {s : List ℕ} (c : Convertible v s) where
   abbrev there : List ℕ
   there = converted v s
 
-  book-there : bookOf there ≡ asVersion v (bookOf s)
-  unfolding converted
-  book-there = bookOf-bytesOf (asVersion v (bookOf s)) (sound-as (bookOf s) (passed s (c .accepted) .sound) v (c .known) (c .lossless))
-
   entered-alike : (actor : Party) (m : Matter) → enteringNumber actor m there ≡ enteringNumber actor m s
   unfolding enteringNumber rightNumber
   entered-alike actor m =
-      ap₂ (λ (n : ℕ) (b : Book). after n (λ k. k) (rightNumber b actor m)) (conversions .round v s c .there .accepted ∙ sym (c .accepted)) book-there
+      ap₂ (λ (n : ℕ) (b : Book). after n (λ k. k) (rightNumber b actor m)) (conversions .round v s c .there .accepted ∙ sym (c .accepted)) (book-there c)
       ∙ ap (λ (may : Bool). after (bookNumber s) (λ k. k) (cond may 0 26)) (right-as v (bookOf s) actor m)
 
   -- ---- calls, queries, whole cancellations
@@ -78,6 +74,12 @@ module _ {v : ℕ} {s : List ℕ} (c : Convertible v s) where
   enquiries-by : (actor : Party) (g : Setting) (q : Query) → enquiryBy actor g there q ≡ enquiryBy actor g s q
   enquiries-by actor g q = ap (λ (n : ℕ). enquiryAfter n g there q) (entered-alike actor (matterOf q)) ∙ enquiries-alike c (enteringNumber actor (matterOf q) s) g q
 
+  told-by : (actor : Party) (g : Setting) (a : Asking) → toldBy actor g there a ≡ toldBy actor g s a
+  told-by actor g a = ap (λ (n : ℕ). toldIn n g there a) (entered-alike actor (own (idOf a))) ∙ told-alike c (enteringNumber actor (own (idOf a)) s) g a
+
+  levels-by : (actor : Party) (g : Setting) → allLevelsBy actor g there ≡ allLevelsBy actor g s
+  levels-by actor g = ap (λ (n : ℕ). allLevelsAfter n g there) (entered-alike actor operators) ∙ levels-alike c (enteringNumber actor operators s) g
+
   cancellations-by : (actor : Party) (g : Setting) (id tries : ℕ) → cancellationBy actor g there id tries ≡ cancellationBy actor g s id tries
   cancellations-by actor g id tries =
       ap (λ (n : ℕ). cancellationIn n g there id tries) (entered-alike actor operators) ∙ cancellations-alike c (enteringNumber actor operators s) g id tries
@@ -91,5 +93,7 @@ conversions-by =
       agreed = λ party v s t out e h a. agreement-claim party s t e h a .written (aboutConversion v s out) (aboutConversion v t out) (converted v s) (converted v t) out;
       requests = λ v s c actor store a. requests-by c actor store a;
       enquiries = λ v s c actor g q. enquiries-by c actor g q;
+      told = λ v s c actor g a. told-by c actor g a;
+      levels = λ v s c actor g. levels-by c actor g;
       cancellations = λ v s c actor g id tries. cancellations-by c actor g id tries;
     }

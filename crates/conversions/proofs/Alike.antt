@@ -12,7 +12,7 @@ use Rattle.rules.specs.Reduction.{cuts, eligible, hasEligible, shortIn, target,
 use Rattle.conversions.specs.Conversion.{asVersion}
 
 -- the same answer, and the book as a version
-unfoldable pub resultAs : ℕ → Result → Result
+unfoldable pub resultAs : ℕ → Result Book → Result Book
 resultAs v r = record { answer = r .answer; book = asVersion v (r .book) }
 
 module _ (limits : Limits) (v : ℕ) where
@@ -25,15 +25,15 @@ module _ (limits : Limits) (v : ℕ) where
   unfolding reduced reducedBy target withTrades cuts tierOne tierTwo asVersion resultAs shortIn eligible sells holding borne afternoonLevel
   reduced-alike b u = refl
 
-  onward-alike : (b : Book) (o : Option User) (more : Book → Result) → ((c : Book) → more (asVersion v c) ≡ resultAs v (more c))
+  onward-alike : (b : Book) (o : Option User) (more : Book → Result Book) → ((c : Book) → more (asVersion v c) ≡ resultAs v (more c))
       → onward limits (asVersion v b) o more ≡ resultAs v (onward limits b o more)
   unfolding onward resultAs
   onward-alike b none more ih = refl
   onward-alike b (some u) more ih =
       let first = reduced limits b u in
-      ap (λ (r : Result). joined r (more (r .book))) (reduced-alike b u) ∙ ap (joined (resultAs v first)) (ih (first .book))
+      ap (λ (r : Result Book). joined r (more (r .book))) (reduced-alike b u) ∙ ap (joined (resultAs v first)) (ih (first .book))
     where
-      joined : Result → Result → Result
+      joined : Result Book → Result Book → Result Book
       joined first rest =
           record { answer = ofRun (suc (rest .answer .reductions)) (first .answer .mwh + rest .answer .mwh) (first .answer .worth + rest .answer .worth); book = rest .book }
 

@@ -1,17 +1,17 @@
 -- A book in bytes as another version: it is accepted, back again it is the first bytes, and no call answers otherwise on it. Assumes nothing.
-use Rattle.base.specs.Basics.{_≡_, refl, subst, sym, ap, ap₂, _∙_, false, true, Option, none, some, List, [], _∷_, _++_, ℕ, _<_, _≤_, T, leb, le→leb}
+use Rattle.base.specs.Basics.{_≡_, refl, subst, sym, ap, ap₂, _∙_, false, true, Option, none, List, [], _∷_, _++_, ℕ, _<_, _≤_, T, leb, le→leb}
 use Rattle.base.specs.Basics.{length, lt-leb}
 use Rattle.fields.specs.Field.{AllBytes}
 use Rattle.rules.specs.Bearers.{borne}
 use Rattle.rules.specs.Book.{Book, find}
 use Rattle.rules.specs.Calls.{reduction}
-use Rattle.rules.specs.Levels.{Limits, afternoonLevel, holding, sells}
-use Rattle.rules.specs.Queries.{Query, Reply, aboutQuery, found, onlyNumber}
-use Rattle.rules.specs.Questions.{Question, decided, refusal, versionKnown}
+use Rattle.rules.specs.Day.{callDue, printedLevel, state}
+use Rattle.rules.specs.Levels.{Limits, afternoonLevel, buys, calledIn, flagged, holding, morningLevel, partyTo, sells, shortOfCover}
+use Rattle.rules.specs.Queries.{Query, Reply, aboutQuery, found, onlyNumber, replyAfter}
+use Rattle.rules.specs.Questions.{Question, after, firstOf, refusal, versionKnown}
 use Rattle.rules.specs.Reduction.{eligible, target}
 use Rattle.laws.specs.Sound.{Sound}
-use Rattle.laws.proofs.Refusals.{refusal-first, refusal-next, yes-first}
-use Rattle.book_format.specs.After.{after, replyAfter}
+use Rattle.laws.proofs.Refusals.{after-append, after-nonzero, refusal-next, yes-first}
 use Rattle.book_format.specs.Book.{bookOf, bytesOf, versionOf}
 use Rattle.book_format.specs.Questions.{aboutBytes, bookNumber}
 use Rattle.book_format.proofs.Formed.{book-passed}
@@ -19,7 +19,7 @@ use Rattle.book_format.proofs.Passed.{passed}
 use Rattle.book_format.proofs.Round.{bytesOf-bookOf}
 use Rattle.book_format.proofs.Written.{all-bytes-bytesOf, bookOf-bytesOf, written-number}
 use Rattle.requests.specs.Cancellation.{Cancellation, aboutCancellation, cancellationAfter, cancellationIn, cancelled, cancelledFor, marksOf, notCancelled, searchFor, triesInRange, wholeWorth, worthSuffices}
-use Rattle.requests.specs.Request.{Act, Outcome, Setting, actBy, actOf, enquiryAfter, firstOf, limitsOn, opening, openingIn, request, requestGiven, requestIn, settingOf}
+use Rattle.requests.specs.Request.{Act, Outcome, Setting, actBy, actOf, enquiryAfter, limitsOn, opening, openingIn, request, requestGiven, requestIn, settingOf}
 use Rattle.store.specs.Store.{storeNumber}
 use Rattle.sequence.proofs.Sequence.{Left, left-of}
 use Rattle.outputs.specs.Output.{accepted, refused, written}
@@ -28,6 +28,7 @@ use Rattle.conversions.specs.Statements.{Alike, Back, Conversions, Conve
 use Rattle.conversions.proofs.Acts.{act-alike, outcomeAs}
 use Rattle.conversions.proofs.Alike.{about-alike, found-alike, query-alike}
 use Rattle.conversions.proofs.Kept.{own-kept, sound-as, upward-kept}
+use Rattle.user_levels.specs.Levels.{AllLevels, allLevelsAfter, levelsAfter, levelsIn, levelsOf, noLevels, userRows}
 
 -- a whole cancellation on a book as a version: its questions and its answer
 asked-alike : (limits : Limits) (v : ℕ) (b : Book) (id tries : ℕ) → aboutCancellation limits (asVersion v b) id tries ≡ aboutCancellation limits b id tries
@@ -60,26 +61,26 @@ module _ (v : ℕ) (s out : List ℕ) where
       yes-first 23 (versionKnown v) (nothingLost v s ∷ (roomFor (converted v s) out ∷ [])) k
       ∙ yes-first 21 (kept v (bookOf s)) (roomFor (converted v s) out ∷ []) l
 
-  refused-first : (n : ℕ) → refusal (aboutBytes s) ≡ some n → conversion v s out ≡ refused out n
-  unfolding conversion written decided
-  refused-first n h = rw (refusal-first (aboutBytes s) (aboutConversion v s out) n h)
+  refused-first : (bookNumber s ≡ 0 → ⊥) → conversion v s out ≡ refused out (bookNumber s)
+  unfolding conversion written bookNumber
+  refused-first h = after-append (aboutBytes s) (aboutConversion v s out) _ _ ∙ after-nonzero _ _ h
 
   refused-unknown : bookNumber s ≡ 0 → versionKnown v ≡ false → conversion v s out ≡ refused out 23
-  unfolding conversion written decided aboutConversion refusal
+  unfolding conversion written after aboutConversion refusal
   refused-unknown h k = rw (own-questions h, k)
 
   refused-lost : bookNumber s ≡ 0 → versionKnown v ≡ true → kept v (bookOf s) ≡ false → conversion v s out ≡ refused out 21
-  unfolding conversion written decided aboutConversion refusal
+  unfolding conversion written after aboutConversion refusal
   refused-lost h k l = rw (own-questions h, k, l)
 
 module _ {v : ℕ} {s : List ℕ} (c : Convertible v s) (out : List ℕ) where
   conversion-given : length (converted v s) ≤ length out → conversion v s out ≡ accepted (converted v s) out
-  unfolding conversion written decided refusal
+  unfolding conversion written after refusal
   conversion-given k =
       rw (own-questions v s out (c .accepted), room-asked v s out (c .known) (c .lossless), yes-first 22 (leb (length (converted v s)) (length out)) [] (le→leb (length (converted v s)) (length out) k))
 
   refused-narrow : length out < length (converted v s) → conversion v s out ≡ refused out 22
-  unfolding conversion written decided refusal
+  unfolding conversion written after refusal
   refused-narrow k =
       rw (own-questions v s out (c .accepted), room-asked v s out (c .known) (c .lossless), lt-leb (length (converted v s)) (length out) k)
 
@@ -113,7 +114,7 @@ module _ {v : ℕ} {s : List ℕ} (c : Convertible v s) where
   unfolding converted
   number-there = written-number (asVersion v b) sound-there
 
-  book-there : bookOf t ≡ asVersion v b
+  pub book-there : bookOf t ≡ asVersion v b
   unfolding converted
   book-there = bookOf-bytesOf (asVersion v b) sound-there
 
@@ -163,28 +164,35 @@ module _ {v : ℕ} {s : List ℕ} (c : Convertible v s) where
         log = there .log ∙ ap (λ (x : Outcome Book). x .log) e ∙ sym (here .log);
       }
 
-  -- a query and a whole cancellation after any opening number, by the book that the bytes hold; the date and the figures are the same
+  -- a query, the levels of all users and a whole cancellation after any opening number, by the book that the bytes hold; the date and the figures are the same
   replied : ℕ → Setting → Query → Book → Reply
-  replied n g q x = after (firstOf n (storeNumber (g .store) (x .header .date))) onlyNumber (decided (refusal (aboutQuery x q)) onlyNumber (found (limitsOn g x) x q))
+  replied n g q x = after (firstOf n (storeNumber (g .store) (x .header .date))) onlyNumber (after (refusal (aboutQuery x q)) onlyNumber (found (limitsOn g x) x q))
 
   pub enquiries-alike : (n : ℕ) (g : Setting) (q : Query) → enquiryAfter n g t q ≡ enquiryAfter n g s q
   unfolding enquiryAfter replyAfter openingIn replied limitsOn asVersion
   enquiries-alike n g q =
       let limits = limitsOn g b in
       ap (replied n g q) book-there
-      ∙ ap₂ (λ (qs : List Question) (r : Reply). after (opening n g s) onlyNumber (decided (refusal qs) onlyNumber r)) (query-alike limits v b q) (found-alike limits v b q)
+      ∙ ap₂ (λ (qs : List Question) (r : Reply). after (opening n g s) onlyNumber (after (refusal qs) onlyNumber r)) (query-alike limits v b q) (found-alike limits v b q)
+
+  levelled : ℕ → Setting → Book → AllLevels
+  levelled n g x = after (firstOf n (storeNumber (g .store) (x .header .date))) noLevels (levelsIn (limitsOn g x) x)
+
+  pub levels-alike : (n : ℕ) (g : Setting) → allLevelsAfter n g t ≡ allLevelsAfter n g s
+  unfolding allLevelsAfter levelsAfter openingIn levelled limitsOn asVersion levelsIn userRows levelsOf state printedLevel callDue shortOfCover calledIn flagged afternoonLevel morningLevel holding borne partyTo sells buys
+  levels-alike n g = ap (levelled n g) book-there
 
   searched : ℕ → Setting → ℕ → ℕ → Book → Cancellation
   searched n g id tries x =
       after (firstOf n (storeNumber (g .store) (x .header .date))) notCancelled
-      (decided (refusal (aboutCancellation (limitsOn g x) x id tries)) notCancelled (cancelled (limitsOn g x) x (find (x .users) id) tries))
+      (after (refusal (aboutCancellation (limitsOn g x) x id tries)) notCancelled (cancelled (limitsOn g x) x (find (x .users) id) tries))
 
   pub cancellations-alike : (n : ℕ) (g : Setting) (id tries : ℕ) → cancellationIn n g t id tries ≡ cancellationIn n g s id tries
   unfolding cancellationIn cancellationAfter openingIn searched limitsOn asVersion
   cancellations-alike n g id tries =
       let limits = limitsOn g b in
       ap (searched n g id tries) book-there
-      ∙ ap₂ (λ (qs : List Question) (r : Cancellation). after (opening n g s) notCancelled (decided (refusal qs) notCancelled r)) (asked-alike limits v b id tries) (cancelled-alike limits v b id tries)
+      ∙ ap₂ (λ (qs : List Question) (r : Cancellation). after (opening n g s) notCancelled (after (refusal qs) notCancelled r)) (asked-alike limits v b id tries) (cancelled-alike limits v b id tries)
 
   -- both pass the questions of the book
   same-number : bookNumber t ≡ bookNumber s
@@ -211,5 +219,6 @@ conversions =
       round = λ v s c. round c;
       requests = λ v s c store a. requests-alike c store a;
       enquiries = λ v s c g q. ap (λ (n : ℕ). enquiryAfter n g (converted v s) q) (same-number c) ∙ enquiries-alike c (bookNumber s) g q;
+      levels = λ v s c g. ap (λ (n : ℕ). allLevelsAfter n g (converted v s)) (same-number c) ∙ levels-alike c (bookNumber s) g;
       cancellations = λ v s c g id tries. ap (λ (n : ℕ). cancellationIn n g (converted v s) id tries) (same-number c) ∙ cancellations-alike c (bookNumber s) g id tries;
     }

@@ -6,5 +6,7 @@ pub mod Kept
 pub mod Acts
 -- There and back in bytes, and the claim.
 pub mod Conversions
+-- Flag and trades.
+pub mod Told
 -- The converter by an acting party.
 pub mod Acting

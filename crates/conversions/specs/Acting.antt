@@ -8,8 +8,10 @@ use Rattle.rights.specs.Acting.{cancellationBy, enquiryBy, requestBy}
 use Rattle.rights.specs.Outputs.{writtenBy}
 use Rattle.rights.specs.Party.{Party, operator, shipperOf}
 use Rattle.rights.specs.Seen.{Agree}
+use Rattle.rights.specs.Trades.{Asking, toldBy}
 use Rattle.conversions.specs.Conversion.{aboutConversion, conversion, converted}
 use Rattle.conversions.specs.Statements.{Alike, Convertible}
+use Rattle.user_levels.specs.Levels.{allLevelsBy}
 
 -- "All else is the operator's": 26 "directly after question 7", before 23
 unfoldable pub conversionBy : Party → ℕ → List ℕ → List ℕ → Output
@@ -27,5 +29,7 @@ pub record ConversionsBy : Type 0 where
   pub requests : (version : ℕ) (s : List ℕ) → Convertible version s → (actor : Party) (store : Option (List ℕ)) (a : Act)
       → Alike version (requestBy actor (actOf store none a) (converted version s)) (requestBy actor (actOf store none a) s)
   pub enquiries : (version : ℕ) (s : List ℕ) → Convertible version s → (actor : Party) (g : Setting) (q : Query) → enquiryBy actor g (converted version s) q ≡ enquiryBy actor g s q
+  pub told : (version : ℕ) (s : List ℕ) → Convertible version s → (actor : Party) (g : Setting) (a : Asking) → toldBy actor g (converted version s) a ≡ toldBy actor g s a
+  pub levels : (version : ℕ) (s : List ℕ) → Convertible version s → (actor : Party) (g : Setting) → allLevelsBy actor g (converted version s) ≡ allLevelsBy actor g s
   pub cancellations : (version : ℕ) (s : List ℕ) → Convertible version s → (actor : Party) (g : Setting) (id tries : ℕ)
       → cancellationBy actor g (converted version s) id tries ≡ cancellationBy actor g s id tries

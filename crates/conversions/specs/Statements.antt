@@ -1,15 +1,16 @@
 -- Document 02, ask 7: "Converting up and back gives the first bytes. Going from 1 to 2 or 3 no level, call, warning, reduction or run without a log may answer otherwise."
 -- Both hold of every version and every target to which no information is lost. Assumes nothing.
-use Rattle.base.specs.Basics.{_≡_, false, true, Option, none, some, List, ℕ, _<_, _≤_, T, length}
-use Rattle.rules.specs.Questions.{refusal, versionKnown}
+use Rattle.base.specs.Basics.{_≡_, false, true, Option, none, List, ℕ, _<_, _≤_, T, length}
+use Rattle.rules.specs.Questions.{versionKnown}
 use Rattle.rules.specs.Queries.{Query}
 use Rattle.fields.specs.Field.{AllBytes}
 use Rattle.book_format.specs.Book.{bookOf, versionOf}
-use Rattle.book_format.specs.Questions.{aboutBytes, bookNumber}
+use Rattle.book_format.specs.Questions.{bookNumber}
 use Rattle.requests.specs.Request.{Act, Outcome, Setting, actOf, enquiry, request}
 use Rattle.requests.specs.Cancellation.{cancellation}
 use Rattle.outputs.specs.Output.{accepted, refused}
 use Rattle.conversions.specs.Conversion.{conversion, converted, kept}
+use Rattle.user_levels.specs.Levels.{allLevels}
 
 -- an accepted book in bytes that can be written as a version
 pub record Convertible (version : ℕ) (s : List ℕ) : Type 0 where
@@ -33,7 +34,7 @@ pub record Back (version : ℕ) (s : List ℕ) : Type 0 where
 -- what is written to an output: the book as the version where nothing refuses it; else the number of the first question that does, whatever the later ones say
 pub record Answers (version : ℕ) (s out : List ℕ) : Type 0 where
   pub gives : Convertible version s → length (converted version s) ≤ length out → conversion version s out ≡ accepted (converted version s) out
-  pub unaccepted : (n : ℕ) → refusal (aboutBytes s) ≡ some n → conversion version s out ≡ refused out n
+  pub unaccepted : (bookNumber s ≡ 0 → ⊥) → conversion version s out ≡ refused out (bookNumber s)
   pub unknown : bookNumber s ≡ 0 → versionKnown version ≡ false → conversion version s out ≡ refused out 23
   pub lost : bookNumber s ≡ 0 → versionKnown version ≡ true → kept version (bookOf s) ≡ false → conversion version s out ≡ refused out 21
   pub narrow : Convertible version s → length out < length (converted version s) → conversion version s out ≡ refused out 22
@@ -57,5 +58,7 @@ pub record Conversions : Type 0 where
       → Alike version (request (actOf store none a) (converted version s)) (request (actOf store none a) s)
   -- every level, warning and shown record
   pub enquiries : (version : ℕ) (s : List ℕ) → Convertible version s → (g : Setting) (q : Query) → enquiry g (converted version s) q ≡ enquiry g s q
+  -- the levels and the states of all users
+  pub levels : (version : ℕ) (s : List ℕ) → Convertible version s → (g : Setting) → allLevels g (converted version s) ≡ allLevels g s
   -- every whole cancellation
   pub cancellations : (version : ℕ) (s : List ℕ) → Convertible version s → (g : Setting) (id tries : ℕ) → cancellation g (converted version s) id tries ≡ cancellation g s id tries

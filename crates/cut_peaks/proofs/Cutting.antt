@@ -52,17 +52,6 @@ module _ {rates ns areas : List ℕ} where
   pub next-none : {mwh start to i : ℕ} → NotYet rates ns areas mwh start to i → to ≤ i → NextPeak rates ns areas mwh start to i
   next-none p h = record { starts = p .starts; ends = p .ends; before = p .before; here = λ m. absurd (omega arith) }
 
--- those from a later place on are a part too
-pub sales-behind : {ns areas : List ℕ} {from to : ℕ} → Sales ns areas from to → {start : ℕ} → from ≤ start → Sales ns areas start to
-sales-behind s h =
-    record {
-      inside = s .inside;
-      standing-long = s .standing-long;
-      areas-long = s .areas-long;
-      standing-most = λ i l m. s .standing-most i (omega arith) m;
-      area-most = λ i l m. s .area-most i (omega arith) m;
-    }
-
 -- ---- their cuts
 
 -- those from a place up to i are cut

@@ -2,7 +2,7 @@
 use Rattle.base.specs.Basics.{_≡_, refl, sym, ap, subst, _∙_, inl, inr, Bool, true, false, cond, not, _||_, List, [], _∷_, ℕ, zero, suc, _*_, _-_, _≤_, _<_, arith}
 use Rattle.base.specs.Basics.{T, min, eqb, ltb, lt-ltb, length, getD, ext-getD, length-sets, sets}
 use Rattle.base.proofs.Linear.{by-order}
-use Rattle.base.proofs.Tests.{by-case, of-three}
+use Rattle.base.proofs.Tests.{by-case, of-three, or-true}
 use Rattle.cut_shares.proofs.Cases.{tier-none}
 use Rattle.cut_shares.specs.Cuts.{added}
 use Rattle.cut_tiers.proofs.After.{cuts-of-same}
@@ -23,6 +23,7 @@ use Rattle.cut_peaks.specs.Peaks.{Highest, NextPeak, NoneCut, PeakCuts, 
 use Rattle.cut_peaks.specs.declared.Choice.{Choice}
 use Rattle.cut_peaks.specs.declared.Heights.{Heights}
 use Rattle.cut_peaks.specs.declared.Kept.{Kept}
+use Rattle.cut_peaks.specs.declared.Peak.{Peak}
 
 pub never : false ≡ true → ⊥
 never e = subst (λ (t : Bool). T (not t)) e tt
@@ -146,6 +147,21 @@ below-known {f} {k} {ns} {areas} {from} {to} s p e =
     by-case (k .known) (λ t. subst (λ (x : Heights). Below x ns areas from to) (sym (e .0 t)) (p t .below))
     (λ t. subst (λ (x : Heights). Below x ns areas from to) (sym (e .1 t)) (below-all s))
 
+-- what is kept of a tier, by its worth and the first of its highest sales
+abbrev pub keptWhere : List Bool → Bool → ℕ → Peak → Kept
+keptWhere short second worth peak =
+    record {
+      known = true;
+      pvb = getD short 0 false;
+      tvb = getD short 1 false;
+      avb = getD short 2 false;
+      second = second;
+      worth = worth;
+      mwh = peak .mwh;
+      place = peak .place;
+      heights = peak .heights;
+    }
+
 -- the first of the highest sales
 pub peaked-first : {rates ns areas : List ℕ} {from to mwh place : ℕ} → Highest rates ns areas from to mwh → NextPeak rates ns areas mwh from to place → Peaked rates ns areas from to place mwh
 peaked-first h n =
@@ -201,13 +217,9 @@ module _ (f : Prices) (range : InRange f) (short : ℕ → Bool) (asked : ℕ) {
   tier-filled false z v w h cs e = one-tier f range short asked s n refl e v w h
   tier-filled true z v w h cs e =
       let one = z refl in
-      let nothing : (eqb asked 0 || eqb 0 0) ≡ true = either (eqb asked 0) in
+      let nothing : (eqb asked 0 || eqb 0 0) ≡ true = or-true (eqb asked 0) in
       let left : asked ≡ asked - 0 = omega arith in
       both-tiers f range short asked s n refl (tier-none s (none-untouched (ratesFor f short) areas n) asked 0 (sym one) nothing) 0 (sym one) refl left e
-    where
-      either : (t : Bool) → (t || true) ≡ true
-      either true = refl
-      either false = refl
 
 -- cuts that lie in a part, stored in an array of none
 cuts-stored : {cs₀ cs : List ℕ} (from to : ℕ) → NoneCut cs₀ → length cs ≡ 256 → from ≤ to → to ≤ 256 → ((i : ℕ) → i < from → getD cs i 0 ≡ 0) → ((i : ℕ) → to ≤ i → getD cs i 0 ≡ 0)

@@ -1,21 +1,13 @@
 -- The worth of cuts at the rates of a tier, and what a tier is worth after them. Assumes nothing.
-use Rattle.base.specs.Basics.{_≡_, refl, sym, ap, _∙_, cond, List, [], _∷_, ℕ, suc, _+_, _*_, _-_, _≤_, add-mul, zero-mul, mul-zero, arith, ltb}
+use Rattle.base.specs.Basics.{_≡_, refl, ap, List, [], _∷_, ℕ, suc, _+_, _*_, _-_, _≤_, add-mul, zero-mul, arith}
 use Rattle.base.specs.Basics.{length, getD}
-use Rattle.base.proofs.Linear.{by-order}
 use Rattle.base.specs.Sums.{sum}
-use Rattle.cut_shares.proofs.Ones.{counts-in}
 use Rattle.cut_shares.specs.Turns.{sharesOf}
+use Rattle.cut_worth.proofs.Rates.{weighted}
 use Rattle.cut_worth.specs.Rates.{lotsIn, rateIn, ratesIn}
 use Rattle.laws_sales.specs.Lots.{lotsOf}
 use Rattle.laws_sales.specs.Sales.{less, standingIn}
 use Rattle.rules.specs.Shares.{loss, tierWorth}
-
--- what is outside the tier has no worth at its rate
-in-tier : (n rate : ℕ) → cond (ltb 0 rate) n 0 * rate ≡ n * rate
-in-tier n rate =
-    by-order 0 rate
-    (λ h. ap (λ (m : ℕ). m * rate) (counts-in rate n h))
-    (λ h. let z : rate ≡ 0 = omega arith in ap (λ (m : ℕ). cond (ltb 0 rate) n 0 * m) z ∙ mul-zero _ ∙ sym (ap (λ (m : ℕ). n * m) z ∙ mul-zero n))
 
 -- no cuts are no loss
 pub none-loss : (cs rs ts : List ℕ) → ((k : ℕ) → getD cs k 0 ≡ 0) → loss (sharesOf cs rs ts) ≡ 0
@@ -34,7 +26,7 @@ loss-worth rates (c ∷ cs) [] [] e f = refl
 loss-worth rates (c ∷ cs) [] (a ∷ areas) e f = absurd (omega arith)
 loss-worth rates (c ∷ cs) (r ∷ rs) [] e f = absurd (omega arith)
 loss-worth rates (c ∷ cs) (r ∷ rs) (a ∷ areas) e f =
-    omega (arith, in-tier c (rateIn rates a), loss-worth rates cs rs areas (omega arith) (omega arith))
+    omega (arith, weighted c (rateIn rates a), loss-worth rates cs rs areas (omega arith) (omega arith))
 
 -- a tier is worth less by its cuts
 pub worth-less : (rates cs ns areas : List ℕ) → length cs ≡ length ns → ((k : ℕ) → getD cs k 0 ≤ getD ns k 0)
@@ -49,9 +41,9 @@ worth-less rates (c ∷ cs) (n ∷ ns) (a ∷ areas) e h =
     let whole : n - c + c ≡ n = omega (arith, h 0) in
     omega (
       arith,
-      in-tier (n - c) rate,
-      in-tier c rate,
-      in-tier n rate,
+      weighted (n - c) rate,
+      weighted c rate,
+      weighted n rate,
       add-mul (n - c) c rate,
       ap (λ (m : ℕ). m * rate) whole,
       worth-less rates cs ns areas (omega arith) (λ k. h (suc k)),

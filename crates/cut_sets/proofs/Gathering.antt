@@ -1,7 +1,8 @@
 -- The worths of the eligible trades, gathered from the first trade on: each worth is stored where the next one goes, which moves on where the trade is eligible. Assumes nothing.
-use Rattle.base.specs.Basics.{_≡_, refl, sym, ap, subst, _∙_, Bool, true, false, cond, List, [], _∷_, _++_, append-nil, ℕ, zero, suc, _+_, _≤_, _<_}
+use Rattle.base.specs.Basics.{_≡_, refl, sym, ap, subst, _∙_, Bool, true, false, cond, List, [], _∷_, _++_, append-nil, ℕ, _+_, _≤_, _<_}
 use Rattle.base.specs.Basics.{add-one, arith, length, take, getD, set, replicate, length-set, length-replicate, getD-set-same, getD-set-other}
 use Rattle.base.specs.Basics.{take-all, take-set-le, take-suc, take-suc-set, length-take-le}
+use Rattle.base.proofs.Fronts.{none-past}
 use Rattle.base.proofs.Linear.{by-order}
 use Rattle.cut_sets.specs.Found.{Given}
 use Rattle.cut_sets.specs.Places.{countOf, worthsOf}
@@ -36,12 +37,7 @@ module _ {A : Type 0} (eligible : A → Bool) (worth : A → ℕ) where
     pub gathering-first : Gathering ts (replicate 256 0) 0 0
     unfolding worthsOf
     gathering-first =
-        record { inside = omega arith; few = omega arith; room = length-replicate {A = ℕ} 256 0; each = λ j. omega (arith, none-at 256 j); gathered = refl }
-      where
-        none-at : (n j : ℕ) → _≡_ {A = ℕ} (getD (replicate n 0) j 0) 0
-        none-at zero j = refl
-        none-at (suc n) zero = refl
-        none-at (suc n) (suc j) = none-at n j
+        record { inside = omega arith; few = omega arith; room = length-replicate {A = ℕ} 256 0; each = λ j. omega (arith, none-past {A = ℕ} 256 j 0); gathered = refl }
 
     pub gathering-more : {worths : List ℕ} {k i : ℕ} (d : A) → Gathering ts worths k i → i < length ts → {e : Bool} {w next : ℕ} → w ≤ 10000000000 → w ≡ worth (getD ts i d)
         → e ≡ eligible (getD ts i d) → next ≡ cond e (k + 1) k → Gathering ts (set worths k w) next (i + 1)

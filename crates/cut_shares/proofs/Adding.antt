@@ -1,6 +1,7 @@
 -- Cuts of a tier added to those of a part of the sales, in a loop over the part: a sale of the tier has none yet. Assumes nothing.
 use Rattle.base.specs.Basics.{_≡_, sym, ap, _∙_, List, ℕ, _+_, _*_, _-_, _≤_, _<_, zero-mul, mul-zero, arith, length, getD, set, List·getD-eq-default}
-use Rattle.cut_shares.proofs.Lifted.{together-length, together-at, Worthless}
+use Rattle.laws.proofs.Cuts.{length-together}
+use Rattle.cut_shares.proofs.Lifted.{together-at, Worthless}
 use Rattle.cut_shares.specs.Cuts.{Untouched, added}
 use Rattle.laws_sales.proofs.Parts.{part-length, part-at, part-here}
 use Rattle.cut_worth.proofs.Rates.{areas-inside, rate-here}
@@ -17,7 +18,7 @@ module _ {rates areas cuts : List ℕ} {from to : ℕ} (inside : to ≤ 256) (u 
 
   module _ (xs : List ℕ) (many : length xs ≡ to - from) where
     pub sums-length : length (together (part from to cuts) xs) ≡ to - from
-    sums-length = together-length (part from to cuts) xs (many ∙ sym cuts-length) ∙ cuts-length
+    sums-length = length-together (part from to cuts) xs (many ∙ sym cuts-length) ∙ cuts-length
 
     -- the sum at a place
     pub sum-at : (i : ℕ) → from ≤ i → i < to → getD (together (part from to cuts) xs) (i - from) 0 ≡ getD cuts i 0 + getD xs (i - from) 0

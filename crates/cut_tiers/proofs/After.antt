@@ -1,7 +1,8 @@
 -- What callers need of the cuts: those of own sales are the rules', and none is above what stands. Assumes nothing.
 use Rattle.base.specs.Basics.{_≡_, refl, sym, ap, _∙_, Bool, true, false, not, cond, List, map, map-map, ℕ, _+_, _-_, _≤_, _<_, arith, length, getD}
 use Rattle.base.specs.Basics.{length-map, sets, length-sets}
-use Rattle.cut_shares.proofs.Lifted.{together-length, together-at}
+use Rattle.laws.proofs.Cuts.{length-together}
+use Rattle.cut_shares.proofs.Lifted.{together-at}
 use Rattle.cut_tiers.proofs.Weights.{standing-same}
 use Rattle.cut_tiers.specs.Tiers.{cutsOf, NoCuts, Takeable}
 use Rattle.laws_sales.proofs.Parts.{part-here, part-stored}
@@ -62,7 +63,7 @@ module _ (f : Prices) (short : ℕ → Bool) (asked : ℕ) (standing areas : Lis
   pub cuts-of-length : length (cutsOf f short asked standing areas) ≡ length standing
   unfolding cutsOf left
   cuts-of-length =
-      together-length (cutsIn asked short) (cutsIn left (λ area. not (short area))) (many left (λ area. not (short area)) ∙ sym (many asked short)) ∙ many asked short
+      length-together (cutsIn asked short) (cutsIn left (λ area. not (short area))) (many left (λ area. not (short area)) ∙ sym (many asked short)) ∙ many asked short
 
   -- each at most what stands
   pub cuts-of-le : (i : ℕ) → i < length standing → getD (cutsOf f short asked standing areas) i 0 ≤ getD standing i 0

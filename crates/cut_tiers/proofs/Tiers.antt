@@ -2,7 +2,8 @@
 -- Assumes nothing.
 use Rattle.base.specs.Basics.{_≡_, refl, sym, ap, ap₂, _∙_, Bool, true, false, not, cond, List, [], _∷_, map, ℕ, suc, _+_, _-_, _≤_, _<_, arith, ltb}
 use Rattle.base.specs.Basics.{length, getD, List·getD-eq-default, sets, length-sets}
-use Rattle.cut_shares.proofs.Lifted.{together-length, together-none}
+use Rattle.laws.proofs.Cuts.{length-together}
+use Rattle.cut_shares.proofs.Lifted.{together-none}
 use Rattle.cut_shares.proofs.Ones.{counts-out}
 use Rattle.cut_shares.specs.Cuts.{Untouched, added}
 use Rattle.cut_tiers.proofs.Weights.{rate-for, worth-for, cuts-for}
@@ -147,7 +148,7 @@ module _ (f : Prices) (range : InRange f) (short : ℕ → Bool) (asked : ℕ) {
       unfolding added
       both-tiers two rest g =
           let sums : length (together ones (twos (asked - v))) ≡ length ones
-          = together-length ones (twos (asked - v)) (tier-many (asked - v) (ratesFor f (λ area. not (short area))) ∙ sym ones-length) in
+          = length-together ones (twos (asked - v)) (tier-many (asked - v) (ratesFor f (λ area. not (short area))) ∙ sym ones-length) in
           g ∙ ap₂ (λ (rs : List ℕ) (m : ℕ). added from to first (tierCuts m (lotsIn rs (part from to ss) (part from to areas)))) two rest
           ∙ ap₂ (λ (zs cs : List ℕ). sets zs from (together cs (twos (asked - v)))) first-stored first-part
           ∙ stored-over cuts ones (together ones (twos (asked - v))) from sums (omega (arith, ones-length, n .rising, n .long, s .inside))

@@ -13,7 +13,7 @@ use Rattle.laws_sales.proofs.Lots.{one-worth-le}
 use Rattle.laws_sales.specs.Lots.{lotsOf}
 
 -- what is outside the tier has no worth at its rate
-weighted : (n rate : ℕ) → cond (ltb 0 rate) n 0 * rate ≡ n * rate
+pub weighted : (n rate : ℕ) → cond (ltb 0 rate) n 0 * rate ≡ n * rate
 weighted n rate =
     by-test (λ (m : ℕ). m * rate ≡ n * rate) (ltb 0 rate) (λ t. refl)
     (λ f. let z : rate ≡ 0 = omega (arith, nltb→le 0 rate f) in ap (λ (k : ℕ). 0 * k) z ∙ sym (ap (λ (k : ℕ). n * k) z ∙ mul-zero n))
@@ -64,15 +64,15 @@ module _ (areas rates : List ℕ) (from to : ℕ) (inside : to ≤ length areas)
       read-at (rateIn rates) (part from to areas) (i - from) 0 0 (omega (arith, part-length areas from to inside))
       ∙ ap (rateIn rates) (part-here areas from to i 0 h k)
 
--- those behind the first are a part too
-pub sales-rest : {ss areas : List ℕ} {from to : ℕ} → Sales ss areas from to → Sales ss areas (from + 1) to
-sales-rest s =
+-- those from a later place on are a part too
+pub sales-behind : {ss areas : List ℕ} {from to : ℕ} → Sales ss areas from to → {start : ℕ} → from ≤ start → Sales ss areas start to
+sales-behind s h =
     record {
       inside = s .inside;
       standing-long = s .standing-long;
       areas-long = s .areas-long;
-      standing-most = λ i h k. s .standing-most i (omega arith) k;
-      area-most = λ i h k. s .area-most i (omega arith) k;
+      standing-most = λ i l m. s .standing-most i (omega arith) m;
+      area-most = λ i l m. s .area-most i (omega arith) m;
     }
 
 -- the areas reach as far as the sales

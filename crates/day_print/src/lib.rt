@@ -7,9 +7,11 @@ use risk_user::State;
 use units::Limits;
 use units::Net;
 ghost use mathlib.Core.Path.{_≡_};
+ghost use Rattle.rules.specs.Calls.{callAfter};
 ghost use Rattle.rules.specs.Levels.{today};
-ghost use Rattle.book_format.specs.After.{CalledAfter, stepAfter};
+ghost use Rattle.book_format.specs.After.{CalledAfter};
 ghost use Rattle.book_format.specs.Questions.{bookNumber};
+ghost use Rattle.book_format.specs.Steps.{inBytes};
 ghost use Rattle.call_answers.specs.Run.{answerOf};
 ghost use Rattle.call_run.specs.Call.{runCall};
 ghost use Rattle.units.specs.Prices.{asPrices};
@@ -167,7 +169,7 @@ fn run(book: &mut [u8]) -> RunAnswer
 // Runs a book in bytes and prints its day: the run, and the line of every user in the book that the run leaves; or the number of the
 // question that refuses it.
 pub fn day(book: &mut [u8])
-    ensures { λ _. ⌜ now (book .exit) ≡ stepAfter (bookNumber (now (book .entry))) today (now (book .entry)) runCall .bytes ⌝ }
+    ensures { λ _. ⌜ now (book .exit) ≡ callAfter inBytes (bookNumber (now (book .entry))) today (now (book .entry)) runCall .book ⌝ }
 {
     let answer = run(book);
     let question = answer.number;

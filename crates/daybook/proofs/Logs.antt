@@ -1,7 +1,7 @@
 -- The public calls with a lent log, given or not, from the inner calls. Assumes nothing.
 use Rattle.base.specs.Basics.{_≡_, refl, sym, ap, subst, _∙_, Bool, true, false, List, ℕ, zero, suc, arith, T, length}
 use Rattle.book_format.proofs.Passed.{passed}
-use Rattle.book_format.specs.After.{CalledAfter, after, stepAfter, unchanged}
+use Rattle.book_format.specs.After.{CalledAfter}
 use Rattle.book_format.specs.Questions.{bookNumber}
 use Rattle.call_admission.specs.Log.{LogAsked}
 use Rattle.call_guarantee.specs.Times.{callOf}
@@ -13,15 +13,16 @@ use Rattle.log_lent.specs.Lent.{Emptiable}
 use Rattle.requests.proofs.Logged.{actLent, logged-call, logged-without}
 use Rattle.requests.specs.Logged.{AdmittedWith, GivesLogged, LoggedAfter}
 use Rattle.requests.specs.Request.{call, Setting, asBytes, loggedAfter}
-use Rattle.rules.specs.Calls.{Answer, Call, only}
+use Rattle.rules.specs.Calls.{Answer, Call, callAfter, only, unchanged}
 use Rattle.rules.specs.Levels.{Limits}
+use Rattle.rules.specs.Questions.{after}
 use Rattle.store.specs.Store.{given}
 
 -- ---- the log of an accepted call
 
 -- a call that returns 0 passed its opening questions
 pub accepted : (n : ℕ) {limits : Limits} {s t : List ℕ} {c : Call} {a : Answer} → CalledAfter n limits s c a t → a .number ≡ 0 → n ≡ 0
-unfolding stepAfter after unchanged only
+unfolding callAfter after unchanged only
 accepted zero k z = refl
 accepted (suc n) k z = sym (ap (λ (x : Answer). x .number) (k .answer)) ∙ z
 

@@ -1,12 +1,8 @@
 -- A record shown after the opening questions is the part that its request hands back: by the number of both, the record or the empty part. Assumes nothing.
-use Rattle.base.specs.Basics.{_≡_, _∙_, ap, refl, sym, Option, none, some, List, [], ℕ, _+_, suc, zero, arith, ltb, ltb→lt}
-use Rattle.laws.proofs.Refusals.{numbered, refusal-is}
-use Rattle.rules.specs.Calls.{idKnown}
+use Rattle.base.specs.Basics.{_≡_, _∙_, ap, refl, sym, List, [], ℕ, _+_, suc, zero}
 use Rattle.rules.specs.Levels.{Limits}
-use Rattle.base.specs.Lists.{all}
-use Rattle.rules.specs.Queries.{Reply, aRecord, aboutQuery, found, onlyNumber, shownRecord}
-use Rattle.rules.specs.Questions.{decided, numberOf, refusal}
-use Rattle.book_format.specs.After.{after, replyAfter}
+use Rattle.rules.specs.Queries.{Reply, aRecord, aboutQuery, found, onlyNumber, replyAfter, shownRecord}
+use Rattle.rules.specs.Questions.{after, firstOf, refusal}
 use Rattle.book_format.specs.Book.{bookOf}
 use Rattle.requests.specs.Carried.{Admitted, partAt, partShown}
 use Rattle.requests.specs.Request.{Setting}
@@ -16,29 +12,23 @@ use Rattle.call_told.specs.Told.{TradeAfter}
 use Rattle.rights.specs.Acting.{HandedBy, enteringNumber}
 use Rattle.rights.specs.Party.{Party, matterOf, own}
 use Rattle.call_show.specs.Shown.{PartAfter, ShownAfter, showing}
+use Rattle.laws.proofs.Refusals.{after-first}
 
 module _ (actor : Party) (g : Setting) (s : List ℕ) (id opened : ℕ) where
   -- by the number of the opening questions and question 8
-  by-number : {R : Type 0} {number : ℕ} (f : ℕ → R) (x : R) → number ≡ after opened (λ n. n) (numberOf (refusal (aboutQuery (bookOf s) (shownRecord id)))) → showing opened s id f x ≡ after number f x
-  unfolding showing after decided numberOf numbered aboutQuery idKnown all
-  by-number f x e = go opened (refusal (aboutQuery (bookOf s) (shownRecord id))) refl ∙ ap (λ (n : ℕ). after n f x) (sym e)
-    where
-      go : (n : ℕ) (o : Option ℕ) → refusal (aboutQuery (bookOf s) (shownRecord id)) ≡ o
-          → after n f (decided o f x) ≡ after (after n (λ m. m) (numberOf o)) f x
-      go (suc n) o h = refl
-      go zero none h = refl
-      go zero (some zero) h = absurd (let l = ltb→lt 0 0 (refusal-is (λ i. ltb 0 i) (aboutQuery (bookOf s) (shownRecord id)) 0 tt h) in omega arith)
-      go zero (some (suc n)) h = refl
+  by-number : {R : Type 0} {number : ℕ} (f : ℕ → R) (x : R) → number ≡ firstOf opened (refusal (aboutQuery (bookOf s) (shownRecord id))) → showing opened s id f x ≡ after number f x
+  unfolding showing
+  by-number f x e = sym (after-first opened (refusal (aboutQuery (bookOf s) (shownRecord id))) f x) ∙ ap (λ (n : ℕ). after n f x) (sym e)
 
   -- the number of the request
-  asked-number : (limits : Limits) → after opened (λ n. n) (numberOf (refusal (aboutQuery (bookOf s) (shownRecord id)))) ≡ replyAfter opened limits s (shownRecord id) .number
-  unfolding replyAfter after decided numberOf onlyNumber found aRecord
+  asked-number : (limits : Limits) → firstOf opened (refusal (aboutQuery (bookOf s) (shownRecord id))) ≡ replyAfter opened limits (bookOf s) (shownRecord id) .number
+  unfolding replyAfter after onlyNumber found aRecord
   asked-number limits = go opened (refusal (aboutQuery (bookOf s) (shownRecord id)))
     where
-      go : (n : ℕ) (o : Option ℕ) → after n (λ m. m) (numberOf o) ≡ after n onlyNumber (decided o onlyNumber (found limits (bookOf s) (shownRecord id))) .number
-      go (suc n) o = refl
-      go zero none = refl
-      go zero (some n) = refl
+      go : (n m : ℕ) → firstOf n m ≡ after n onlyNumber (after m onlyNumber (found limits (bookOf s) (shownRecord id))) .number
+      go (suc n) m = refl
+      go zero zero = refl
+      go zero (suc m) = refl
 
   pub handed : {limits : Limits} {number : ℕ} {part : List ℕ} {book place : ℕ × ℕ} → Admitted (enteringNumber actor (own id) s) g s opened limits → ShownAfter opened s id number part → PartAfter opened s id book place → HandedBy actor g s id number part book place
   unfolding partShown partAt matterOf

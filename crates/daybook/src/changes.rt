@@ -9,7 +9,7 @@ ghost use Rattle.rights.specs.Party.{partyOf};
 ghost use Rattle.rights.specs.Logged.{LoggedBy, PostedBy};
 ghost use Rattle.log_format.specs.Fits.{startNumber, started};
 ghost use Rattle.daybook.specs.Acts.{called, withdrawing};
-ghost use Rattle.call_logged.specs.Withdrawal.{withdrawalOf};
+ghost use Rattle.call_answers.specs.Withdrawal.{withdrawalOf};
 ghost use Rattle.call_posting.specs.Posting.{postingOf};
 ghost use Rattle.call_guarantee.specs.Times.{callOf};
 ghost use Rattle.call_answers.specs.Call.{answerOf};
@@ -20,7 +20,7 @@ ghost use Rattle.call_run.specs.Call.{runCall};
 use call_answers::CallAnswer;
 use call_answers::ReductionAnswer;
 use call_answers::RunAnswer;
-use call_logged::WithdrawalAnswer;
+use call_answers::WithdrawalAnswer;
 
 // Adds a signed amount to a user's physical entry and position in an area, and answers 0; or the number of the first question that is
 // answered by no.

@@ -12,9 +12,9 @@ ghost use Rattle.rights.specs.Party.{partyOf};
 ghost use Rattle.rights.specs.Acting.{HandedBy, cancellationBy, enquiryBy};
 ghost use Rattle.rights.specs.Read.{ReadBy};
 ghost use Rattle.rights.specs.Trades.{TradeHanded, countOf, flagOf, toldBy};
-ghost use Rattle.call_told.specs.Told.{countTold, flagTold};
+ghost use Rattle.call_answers.specs.Told.{countTold, flagTold};
 ghost use Rattle.call_level.specs.Times.{queryOf};
-ghost use Rattle.call_users.specs.Rows.{levelsTold};
+ghost use Rattle.call_answers.specs.Levels.{levelsTold};
 ghost use Rattle.user_levels.specs.Levels.{allLevelsBy};
 ghost use Rattle.call_answers.specs.Level.{replyOf};
 ghost use Rattle.call_answers.specs.Warning as warned;
@@ -25,11 +25,11 @@ ghost use Rattle.call_show.specs.Shown.{picked, pickedAt};
 use book_tables::Book;
 use book_value::Opening;
 use call_answers::CancellationAnswer;
+use call_answers::CountAnswer;
+use call_answers::FlagAnswer;
 use call_answers::LevelAnswer;
+use call_answers::LevelsAnswer;
 use call_answers::WarningAnswer;
-use call_told::CountAnswer;
-use call_told::FlagAnswer;
-use call_users::LevelsAnswer;
 
 mod changes;
 

@@ -1,11 +1,10 @@
 -- A shown part has at most 68 bytes; copied to a part of 68, with 0 behind it, it is the record or 68 times 0. Assumes nothing.
-use Rattle.base.specs.Basics.{_≡_, _∙_, ap, ap₂, refl, Bool, true, false, cond, Option, none, some, List, [], _∷_, ℕ, _≤_, suc, zero, arith, length}
+use Rattle.base.specs.Basics.{_≡_, _∙_, ap, ap₂, refl, Bool, true, false, cond, List, [], _∷_, ℕ, _≤_, suc, zero, arith, length}
 use Rattle.base.specs.Basics.{take, drop, getD, length-take, set}
 use Rattle.fields.specs.Layout.{recordsOf}
 use Rattle.laws_sales.specs.Kept.{kept}
-use Rattle.rules.specs.Questions.{decided, refusal}
+use Rattle.rules.specs.Questions.{after, refusal}
 use Rattle.book_format.proofs.Offsets.{user-range}
-use Rattle.book_format.specs.After.{after}
 use Rattle.book_format.specs.Book.{bookOf, tradeCount, tradesAt, userAt, usersOf, versionOf, userSize}
 use Rattle.book_format.specs.Questions.{partsOf}
 use Rattle.book_records.specs.Trade as trade
@@ -49,13 +48,13 @@ part-length p (suc n) s k = go (p (take 20 s)) k (part-length p n (drop 20 s))
 
 -- what is told of a trade
 pub trade-length : (actor : Party) (g : Setting) (s : List ℕ) (id ordinal : ℕ) → length (toldBy actor g s (tradeOf id ordinal) .part) ≤ 20
-unfolding idOf toldIn toldAfter tells tradesShown after decided toldNumber
+unfolding idOf toldIn toldAfter tells tradesShown after toldNumber
 trade-length actor g s id ordinal = go (openingNumberBy actor (own id) g s) (refusal (aboutUser (bookOf s) id))
   where
-    go : (n : ℕ) (o : Option ℕ) → length (after n toldNumber (decided o toldNumber (tells (limitsOn g (bookOf s)) s (tradeOf id ordinal))) .part) ≤ 20
-    go zero none = part-length (λ c. seesTrade (usersOf s) id (trade.tradeOf c)) (tradeCount s) (drop (tradesAt s) s) ordinal
-    go zero (some m) = omega arith
-    go (suc n) o = omega arith
+    go : (n m : ℕ) → length (after n toldNumber (after m toldNumber (tells (limitsOn g (bookOf s)) s (tradeOf id ordinal))) .part) ≤ 20
+    go zero zero = part-length (λ c. seesTrade (usersOf s) id (trade.tradeOf c)) (tradeCount s) (drop (tradesAt s) s) ordinal
+    go zero (suc m) = omega arith
+    go (suc n) m = omega arith
 
 -- a part of one place with its only number stored
 pub one-stored : (xs : List ℕ) (v : ℕ) → length xs ≡ 1 → set xs 0 v ≡ v ∷ []

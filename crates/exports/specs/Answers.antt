@@ -2,7 +2,7 @@
 use Rattle.base.specs.Basics.{_≡_, Bool, not, Option, List, ℕ, eqb, ℤ, length}
 use Rattle.rules.specs.Calls.{Answer}
 use Rattle.rules.specs.Queries.{Query, Reply, shownRecord}
-use Rattle.rules.specs.Questions.{refusal, numberOf, decided}
+use Rattle.rules.specs.Questions.{after, refusal}
 use Rattle.book_format.specs.Book.{userCount, tradeCount, bytesOf}
 use Rattle.store.specs.Store.{given}
 use Rattle.requests.specs.Carried.{partShown}
@@ -84,9 +84,9 @@ ReadInto actor s lent result after = Stored imageSize lent (enteringNumber actor
 
 -- an image written as a book to a part s
 abbrev pub WrittenFrom : List ℕ → List ℕ → ℕ → List ℕ → Type 0
-WrittenFrom image s result after =
+WrittenFrom image s result t =
     let r = refusal (aboutWriting (userCount image) (tradeCount image) (imageBook image) (length s)) in
-    Given imageSize image (numberOf r) (decided r (λ n. s) (bytesOf (imageBook image))) s result after
+    Given imageSize image r (after r (λ n. s) (bytesOf (imageBook image))) s result t
 
 -- a return of shrinkage: its number, and H, the odd kWh, the rest, the shares and the remainders
 abbrev pub ReturnedInto : List ℤ → List ℕ → ℕ → List ℕ → Type 0

@@ -1,2 +1,2 @@
 -- Yes and no as numbers.
-mod Bits
+pub mod Bits

@@ -7,18 +7,18 @@ ghost use Rattle.call_answers.specs.Warning as warned;
 ghost use Rattle.call_answers.specs.Call as calls;
 ghost use Rattle.call_answers.specs.Reduction as reducing;
 ghost use Rattle.call_answers.specs.Run as running;
-ghost use Rattle.call_logged.specs.Withdrawal.{withdrawalOf};
-ghost use Rattle.call_told.specs.Told.{countTold, flagTold};
+ghost use Rattle.call_answers.specs.Withdrawal.{withdrawalOf};
+ghost use Rattle.call_answers.specs.Told.{countTold, flagTold};
 ghost use Rattle.exports_answers.specs.Numbers.{levelNumbers, warningNumbers, flagNumbers, countNumbers};
 ghost use Rattle.exports_answers.specs.Numbers.{callNumbers, reductionNumbers, runNumbers, withdrawalNumbers};
 use call_answers::CallAnswer;
+use call_answers::CountAnswer;
+use call_answers::FlagAnswer;
 use call_answers::LevelAnswer;
 use call_answers::ReductionAnswer;
 use call_answers::RunAnswer;
 use call_answers::WarningAnswer;
-use call_logged::WithdrawalAnswer;
-use call_told::CountAnswer;
-use call_told::FlagAnswer;
+use call_answers::WithdrawalAnswer;
 
 // Stores the numbers of an answer in a part of as many places.
 pub fn store(answer: &mut [u64], numbers: &[u64])

@@ -3,8 +3,8 @@ use Rattle.base.specs.Basics.{_≡_, refl, sym, ap, _∙_, List, [], _∷_, _++
 use Rattle.base.specs.Basics.{set, drop-cons, drop-length, length-sets, sets}
 use Rattle.fields.proofs.Sets.{sets-whole}
 use Rattle.user_levels.specs.Levels as rows
-use Rattle.call_users.specs.Rows.{asRow}
-use Rattle.call_users.specs.declared.UserLevels.{UserLevels}
+use Rattle.call_answers.specs.Levels.{asRow}
+use Rattle.call_answers.specs.declared.UserLevels.{UserLevels}
 use Rattle.exports_users.specs.Numbers.{rowNumbers, rowsNumbers}
 
 -- four stores, one after the other

@@ -5,10 +5,10 @@ ghost use Prim.Native.Nat.{_+_, _≤_};
 ghost use lib.ListN.{length};
 ghost use lib.Seq.{sets};
 ghost use Rattle.risk_user.specs.States.{stateOf};
-ghost use Rattle.call_users.specs.Rows.{asRow, levelsTold};
+ghost use Rattle.call_answers.specs.Levels.{asRow, levelsTold};
 ghost use Rattle.exports_users.specs.Numbers.{rowNumbers, rowsNumbers, stateNumber, usersNumbers};
-use call_users::LevelsAnswer;
-use call_users::UserLevels;
+use call_answers::LevelsAnswer;
+use call_answers::UserLevels;
 use risk_user::State;
 
 // The number of a state.

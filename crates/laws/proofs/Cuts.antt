@@ -1,6 +1,6 @@
 -- What holds of a reduction's cuts, for any book, user and amount asked: they are within the user's eligible trades, some MWh is cut where something is asked and a trade
 -- is eligible, and the tally's worth is between what is asked, or all there is, and what is asked and one MWh at the largest tariff. Both tiers' laws, added. Assumes nothing.
-use Rattle.base.specs.Basics.{_≡_, refl, sym, ap, ap₂, subst, fun-ext, _∙_, Bool, true, false, not, _&&_, _||_, List, [], _∷_, map, map-map, ℕ, _+_, _*_, _-_}
+use Rattle.base.specs.Basics.{_≡_, refl, sym, ap, ap₂, subst, fun-ext, _∙_, Bool, true, false, not, _&&_, _||_, List, [], _∷_, map, map-map, ℕ, _+_, _*_, _-_, suc}
 use Rattle.base.specs.Basics.{_≤_, _<_, min, add-mul, not-suc-le-zero, le-of-suc-le-suc, mul-pos, arith, T, leb, ltb, eqb, le→leb, leb→le, ltb→lt, length}
 use Rattle.base.specs.Basics.{length-map}
 use Rattle.base.proofs.{Linear.by-order, Sums.sum-add, Sums.sum-ext, Sums.sum-map}
@@ -56,6 +56,12 @@ together-within f g (c ∷ cs) (d ∷ ds) (t ∷ ts) h k =
     let m = leb→le d (g t) (and-l (leb d (g t)) (eachWithin ds (map g ts)) k) in
     and-i (leb (c + d) (f t + g t)) (eachWithin (together cs ds) (map (λ t. f t + g t) ts)) (le→leb (c + d) (f t + g t) (omega arith))
     (together-within f g cs ds ts (and-r (leb c (f t)) (eachWithin cs (map f ts)) h) (and-r (leb d (g t)) (eachWithin ds (map g ts)) k))
+
+pub length-together : (cs ds : List ℕ) → length ds ≡ length cs → length (together cs ds) ≡ length cs
+unfolding together
+length-together [] ds e = refl
+length-together (c ∷ cs) [] e = e
+length-together (c ∷ cs) (d ∷ ds) e = ap suc (length-together cs ds (omega arith))
 
 -- their worths add up
 together-worth : (cs ds ps : List ℕ) → length cs ≡ length ds → worthAt (together cs ds) ps ≡ worthAt cs ps + worthAt ds ps

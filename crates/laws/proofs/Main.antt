@@ -1,9 +1,9 @@
 -- The main laws, each as its statement in specs/Statements.antt says it. Assumes nothing.
-use Rattle.base.specs.Basics.{_≡_, refl, ap, Option, none, some, max, ℕ, arith, leb→le, le→leb, ltb, ltb→lt, _+ℤ_, natAbs}
+use Rattle.base.specs.Basics.{_≡_, refl, ap, none, some, max, ℕ, arith, leb→le, le→leb, ltb, ltb→lt, _+ℤ_, natAbs, suc, zero}
 use Rattle.base.proofs.{Linear.abs-parts, Linear.posPart-of, Tests.and-l, Tests.and-r}
 use Rattle.base.specs.Parts.{negPart, posPart}
 use Rattle.laws.proofs.{Bounds.position-bound, Bounds.tariffs-pos, Levels.afternoon-level-le, Levels.morning-level-le, Guarantee.guarantee-sound}
-use Rattle.laws.proofs.{Credit.level-uncredited, Refusals.append-yes, Refusals.first-yes, Sound.accept, Sound.sound, Trades.framed, Trades.lowered-refl}
+use Rattle.laws.proofs.{Credit.level-uncredited, Refusals.first-yes, Sound.accept, Sound.sound, Trades.framed, Trades.lowered-refl}
 use Rattle.laws.proofs.{Cuts.cuts-bilateral, Cuts.cuts-pos, Cuts.cuts-within, Cuts.tally-mwh, Cuts.tally-near, Cuts.tally-reaches, Posting.posting-sound}
 use Rattle.laws.proofs.{Positions.positions-sum, Reduction.cuts-lowered, Settle.retraded-anew}
 use Rattle.laws.proofs.{Run.Done, Run.has-target, Run.next-none, Run.reduced-law, Run.run-count, Run.run-done, Run.run-law, Run.run-none, Users.all-find}
@@ -11,11 +11,12 @@ use Rattle.laws.specs.{Sound.Sound, Trades.Lowered, Trades.Pairwise}
 use Rattle.laws.specs.Statements.{Conserved, StaysAccepted, CutsEligible, SomethingCut, TargetMet, SettledAnew, AllCovered, RunEnds, RunCounts, Bounded}
 use Rattle.laws.specs.Statements.{KeepsReading}
 use Rattle.rules.specs.{Areas.sellingIn, Signed.within}
-use Rattle.rules.specs.{Book.Book, Book.at, Book.find, Questions.aboutBook, Questions.decided, Questions.positionsValid, Questions.refusal, Questions.userValid}
-use Rattle.rules.specs.Calls.{posting, morningCall, afternoonCall, reduction, run, Call, about, assignedFallsShort, assignedSuffices, calledInBeyondMargin}
-use Rattle.rules.specs.Calls.{cuttable, effect, eligibleTrade, entryInRange, guaranteed, idKnown, isShipper, marginExceeded, ofCuts, only, questions, reduced}
+use Rattle.rules.specs.{Book.Book, Book.at, Book.find, Questions.aboutBook, Questions.positionsValid, Questions.refusal, Questions.userValid}
+use Rattle.rules.specs.Calls.{posting, morningCall, afternoonCall, reduction, run, Call, about, assignedFallsShort, assignedSuffices, callAfter, calledInBeyondMargin, itself, resultIn, unchanged}
+use Rattle.rules.specs.Calls.{cuttable, effect, eligibleTrade, entryInRange, guaranteed, idKnown, isShipper, marginExceeded, ofCuts, reduced}
 use Rattle.rules.specs.Calls.{reducedBy, runFor, step}
 use Rattle.rules.specs.{Changes.withUsers, Levels.Limits, Levels.afternoonLevel, Levels.morningLevel, Reduction.cutAll, Reduction.cuts, Reduction.target}
+use Rattle.rules.specs.Questions.{after}
 
 pub conserved : Conserved
 conserved =
@@ -28,29 +29,29 @@ record Stepped (b n : Book) : Type 0 where
   lowered : Pairwise Lowered (b .trades) (n .trades)
 
 module _ (limits : Limits) where
-  effect-steps : (b : Book) (c : Call) → Sound b → refusal (about limits b c) ≡ none → Stepped b (effect limits b c .book)
+  effect-steps : (b : Book) (c : Call) → Sound b → refusal (about limits b c) ≡ 0 → Stepped b (effect limits b c .book)
   unfolding about effect idKnown isShipper entryInRange assignedSuffices assignedFallsShort marginExceeded calledInBeyondMargin eligibleTrade guaranteed reduced withUsers
   effect-steps b (posting id area amount) s h =
-      let q8 = first-yes _ _ h in
-      let q10 = first-yes _ _ (q8 .1) in
+      let q8 = first-yes _ _ h tt in
+      let q10 = first-yes _ _ (q8 .1) tt in
       let ok = within 1000000 (at (find (b .users) id .physical) area +ℤ amount) in
       record {
         sound = posting-sound b id area amount s (q8 .0) (ltb→lt area 3 (and-l (ltb area 3) ok (q10 .0))) (and-r (ltb area 3) ok (q10 .0));
         lowered = lowered-refl (b .trades);
       }
   effect-steps b (morningCall id) s h =
-      let q8 = first-yes _ _ h in
-      let q9 = first-yes _ _ (q8 .1) in
-      let q11 = first-yes _ _ (q9 .1) in
-      let q12 = first-yes _ _ (q11 .1) in
+      let q8 = first-yes _ _ h tt in
+      let q9 = first-yes _ _ (q8 .1) tt in
+      let q11 = first-yes _ _ (q9 .1) tt in
+      let q12 = first-yes _ _ (q11 .1) tt in
       let u = find (b .users) id in
       let level = morningLevel limits b u in
       record { sound = guarantee-sound b id level s (q8 .0) (leb→le level (u .party .assigned) (q12 .0)); lowered = lowered-refl (b .trades) }
   effect-steps b (afternoonCall id) s h =
-      let q8 = first-yes _ _ h in
-      let q9 = first-yes _ _ (q8 .1) in
-      let q11 = first-yes _ _ (q9 .1) in
-      let q12 = first-yes _ _ (q11 .1) in
+      let q8 = first-yes _ _ h tt in
+      let q9 = first-yes _ _ (q8 .1) tt in
+      let q11 = first-yes _ _ (q9 .1) tt in
+      let q12 = first-yes _ _ (q11 .1) tt in
       let u = find (b .users) id in
       let level = afternoonLevel limits b u in
       record { sound = guarantee-sound b id level s (q8 .0) (leb→le level (u .party .assigned) (q12 .0)); lowered = lowered-refl (b .trades) }
@@ -62,12 +63,13 @@ module _ (limits : Limits) where
       record { sound = r .sound; lowered = r .lowered }
 
   steps : (b : Book) (c : Call) → Sound b → Stepped b (step limits b c .book)
-  unfolding step questions decided
-  steps b c s = go (refusal (questions limits b c)) refl
+  unfolding callAfter after unchanged resultIn
+  steps b c s = go (refusal (aboutBook b)) (refusal (about limits b c)) refl
     where
-      go : (o : Option ℕ) → refusal (questions limits b c) ≡ o → Stepped b (decided o (λ n. record { answer = only n; book = b }) (effect limits b c) .book)
-      go none e = effect-steps b c s (append-yes (aboutBook b) (about limits b c) e .1)
-      go (some n) e = record { sound = s; lowered = lowered-refl (b .trades) }
+      go : (n m : ℕ) → refusal (about limits b c) ≡ m → Stepped b (after n (unchanged b) (after m (unchanged b) (resultIn itself (effect limits b c))) .book)
+      go zero zero e = effect-steps b c s e
+      go zero (suc m) e = record { sound = s; lowered = lowered-refl (b .trades) }
+      go (suc n) m e = record { sound = s; lowered = lowered-refl (b .trades) }
 
   pub stays-accepted : StaysAccepted limits
   stays-accepted =

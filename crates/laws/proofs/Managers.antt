@@ -7,7 +7,7 @@ use Rattle.rules.specs.{Areas.managersIn, Questions.groupsValid, Questions.know
 use Rattle.rules.specs.{Bearers.bearer, Book.Book, Book.User, Book.find, Book.managerIn}
 
 -- one area of the three
-manager-at : (version : ℕ) (us : List User) (u : User) (area : ℕ) → area < 3 → T (managersValid version us u) → T (managerValid version us u area)
+pub manager-at : (version : ℕ) (us : List User) (u : User) (area : ℕ) → area < 3 → T (managersValid version us u) → T (managerValid version us u area)
 unfolding managersValid
 manager-at version us u area l h =
     of-three (λ (a : ℕ). T (managerValid version us u a)) (search (and-l, and-r)) (search (and-l, and-r)) (search (and-l, and-r)) area l

@@ -4,16 +4,16 @@ use Rattle.base.specs.Basics.{_≡_, refl, ap, ap₂, fun-ext, subst, _∙_, Bo
 use Rattle.base.specs.Basics.{_∷_, map, List·Memᴰ, List·Memᴰ·cases-cons, List·Memᴰ·not-nil, ℕ, zero, suc, _+_, _-_, _<_, arith, T, eqb, leb, ltb, lt→ltb}
 use Rattle.base.specs.Basics.{leb→le, le→leb, pos, length-map, le-ltb, ⊎-elim, T-not}
 use Rattle.base.specs.Lists.{all, any}
-use Rattle.base.proofs.Tests.{all-map, and-false, and-i, and-l, and-r, same-test, by-case, fails}
+use Rattle.base.proofs.Tests.{all-map, and-false, and-true, and-i, and-l, and-r, same-test, by-case, fails}
 use Rattle.laws.proofs.{Run.next-none, Run.eligible-cuttable, Sound.accept, Sound.none-refuses, Sound.sound, Users.map-sum, Fuel.run-stops}
 use Rattle.laws_deposits.specs.Deposits.{DepositsAccepted, DepositsLeast, DepositsSuffice, deposited, depositsValid, lacking, withDeposits}
 use Rattle.laws.specs.{Sound.Sound, Statements.AllCovered}
 use Rattle.rules.specs.{Bearers.asBorne, Bearers.bearer, Bearers.borne, Bearers.borneSum, Reduction.eligible, Reduction.hasEligible, Reduction.target}
 use Rattle.rules.specs.Book.{Book, PerArea, Trade, User, at, definedPosition, find, managerIn, nobody}
-use Rattle.rules.specs.Calls.{about, cuttable, effect, nextReduced, ofRun, only, onward, questions, run, runFor, step}
+use Rattle.rules.specs.Calls.{about, callAfter, cuttable, effect, itself, nextReduced, ofRun, onward, resultIn, run, runFor, unchanged}
 use Rattle.rules.specs.Changes.{withUsers}
 use Rattle.rules.specs.Levels.{Limits, afternoonLevel, calledIn, exceedsMargin, flagged, holding, partyTo, sells, shipper, shortOfCover}
-use Rattle.rules.specs.Questions.{aboutBook, accepted, countsValid, decided, groupsValid, guaranteesValid, idsRise, known, managerValid, managersValid, manages}
+use Rattle.rules.specs.Questions.{accepted, after, countsValid, groupsValid, guaranteesValid, idsRise, known, managerValid, managersValid, manages, refusal}
 use Rattle.rules.specs.Questions.{partiesValid, positionValid, positionsValid, tradeValid, userValid, versionValid}
 
 -- ---- what a deposit leaves
@@ -83,10 +83,6 @@ module _ (amounts : User → ℕ) where
       short-deposited = rw (called-same, level-same)
 
 -- ---- the next user that is reduced, after the deposits
-
-and-true : (a : Bool) → (a && true) ≡ a
-and-true true = refl
-and-true false = refl
 
 -- an assigned guarantee with what it lacks to a level is not below it
 reaches : (level assigned : ℕ) (c : Bool) → ltb assigned level ≡ c → ltb (assigned + cond c (level - assigned) 0) level ≡ false
@@ -254,12 +250,12 @@ module _ (amounts : User → ℕ) where
       same-test (accepted after) (depositsValid amounts b) (λ k. rw (← same) (sound after k .users)) (λ k. accept after (sound-deposited b (sound b t) (rw same k)))
 
 pub deposits-accepted : (limits : Limits) → DepositsAccepted limits
-unfolding step questions about aboutBook effect decided
+unfolding callAfter about effect after unchanged resultIn refusal
 deposits-accepted limits =
     record {
       accepts = accepted-deposited;
       steps = λ b t k.
-          let after = withDeposits (lacking limits b) b in
-          ap (λ (o : Option ℕ). decided o (λ n. record { answer = only n; book = after }) (runFor limits (cuttable (after .trades)) after)) (none-refuses after (sound after (rw (accepted-deposited (lacking limits b) b t) k)))
-          ∙ deposits-suffice limits .run (cuttable (after .trades)) b;
+          let there = withDeposits (lacking limits b) b in
+          ap (λ (n : ℕ). callAfter itself n limits there run) (none-refuses there (sound there (rw (accepted-deposited (lacking limits b) b t) k)))
+          ∙ deposits-suffice limits .run (cuttable (there .trades)) b;
     }

@@ -1,7 +1,8 @@
 -- The laws of groups, as specs/Statements.antt has them. Assumes nothing.
-use Rattle.base.specs.Basics.{_≡_, refl, ap, _∙_, Bool, true, false, not, _&&_, List, [], _∷_, ℕ, zero, suc, _<_, arith, T, eqb, eqb→eq, ltb}
+use Rattle.base.specs.Basics.{_≡_, refl, ap, _∙_, Bool, true, false, not, _&&_, List, [], _∷_, ℕ, _<_, T, eqb, eqb→eq, ltb}
 use Rattle.base.proofs.Tests.{all-by, and-i, and-l, and-r, fails}
 use Rattle.base.specs.Lists.{all}
+use Rattle.laws.proofs.Managers.{manager-at}
 use Rattle.laws.proofs.Members.{bought-members, membersSum, sold-members}
 use Rattle.laws.proofs.Sound.{sound}
 use Rattle.laws.proofs.Users.{known-id}
@@ -10,7 +11,7 @@ use Rattle.laws_sales.proofs.Alone.{own-risk}
 use Rattle.rules.specs.Bearers.{asBorne, bearer, borne, borneSum}
 use Rattle.rules.specs.Book.{Book, User, at, bought, find, managerIn, sold}
 use Rattle.rules.specs.Levels.{holding, sells}
-use Rattle.rules.specs.Questions.{groupsValid, managerValid, managersValid}
+use Rattle.rules.specs.Questions.{groupsValid, managersValid}
 use Rattle.laws_groups.proofs.Nothing.{bears-nobody, found-managers, sum-none, sumℤ-none}
 use Rattle.laws_groups.specs.Statements.{InsideIsNobodys, ManagedCountsNothing, SumsOfMembers, WithoutManagers, nothingHeld}
 
@@ -28,14 +29,6 @@ inside-is-nobodys = record { nobodys = λ b u t e. rw e (neither (eqb (asBorne (
     neither : (c : Bool) → (c && not c) ≡ false
     neither true = refl
     neither false = refl
-
--- one area of the three
-in-area : (version : ℕ) (us : List User) (u : User) (area : ℕ) → area < 3 → T (managersValid version us u) → T (managerValid version us u area)
-unfolding managersValid
-in-area version us u zero l h = and-l (managerValid version us u 0) (managerValid version us u 1 && managerValid version us u 2) h
-in-area version us u (suc zero) l h = search (and-l, and-r)
-in-area version us u (suc (suc zero)) l h = search (and-l, and-r)
-in-area version us u (suc (suc (suc area))) l h = absurd (omega arith)
 
 -- two tests of every element
 all-and : (p q : User → Bool) (vs : List User) → T (all p vs) → T (all q vs) → T (all (λ v. p v && q v) vs)
@@ -55,7 +48,7 @@ nobody-bears b s id area l managed =
     (λ v h.
     let valid = and-l (managersValid version us v) (found v) h in
     let there = and-r (managersValid version us v) (found v) h in
-    fails (bears-nobody version us area id managed v (in-area version us v area l valid)
+    fails (bears-nobody version us area id managed v (manager-at version us v area l valid)
     (eqb→eq (managerIn (v .party .managers) area) (managerIn (find us (v .party .id) .party .managers) area) (and-r (ltb 0 (v .party .id)) _ there))))
     us (all-and (managersValid version us) found us (s .groups) (found-managers area us 0 (s .ids)))
 

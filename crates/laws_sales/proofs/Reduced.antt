@@ -128,7 +128,7 @@ settle-other (c ∷ cs) (s ∷ ss) us i d e =
     let first = settle-one-other c s us i d (neither .0) in
     settle-other cs ss (settleOne s (cutBy c s) us) i d (ap (λ (v : User). someCut (isParty (v .party .id)) cs ss) first ∙ neither .1) ∙ first
 
-module _ {own : ℕ → Trade → Bool} {b : Book} {u : User} {asked : ℕ} {r : Result} (h : ReducedOf own b u asked r) where
+module _ {own : ℕ → Trade → Bool} {b : Book} {u : User} {asked : ℕ} {r : Result Book} (h : ReducedOf own b u asked r) where
   -- the user at a place that is party to no sale that lost something
   pub user-left : (i : ℕ) (d : User) → someCut (isParty (getD (b .users) i d .party .id)) (cutsBy own b u asked) (salesBy own b u) ≡ false
       → getD (r .book .users) i d ≡ getD (b .users) i d

@@ -50,7 +50,7 @@ borneBook b =
     }
 
 -- what a call gives, with the book as its risk is borne
-unfoldable pub borneResult : Result → Result
+unfoldable pub borneResult : Result Book → Result Book
 borneResult r = record { answer = r .answer; book = borneBook (r .book) }
 
 -- what holds of a trade as it is borne: its parties are users, two of them where it can be cut; its area is one of three; no more stands than was notified

@@ -29,7 +29,7 @@ abbrev pub settledFirst : (ℕ → Trade → Bool) → Book → User → ℕ →
 settledFirst own b u asked n = settle (salesBy own b u) (cutAll (take n (cutsBy own b u asked)) (salesBy own b u)) (b .users)
 
 -- the result of a reduction by tests of whose sale a trade is
-pub record ReducedOf (sale : ℕ → Trade → Bool) (b : Book) (u : User) (asked : ℕ) (r : Result) : Type 0 where
+pub record ReducedOf (sale : ℕ → Trade → Bool) (b : Book) (u : User) (asked : ℕ) (r : Result Book) : Type 0 where
   pub header : r .book .header ≡ b .header
   -- each own sale stands lower by its cut, at its place; all other trades are as they were
   pub trades : r .book .trades ≡ cutAll (spread (sale (u .party .id)) (b .trades) (cutsBy sale b u asked)) (b .trades)
@@ -46,5 +46,5 @@ pub record ReducedOf (sale : ℕ → Trade → Bool) (b : Book) (u : User) (aske
   pub cut : (id : ℕ) → cutBefore id (r .book .trades) ≡ cutBefore id (b .trades) || someCut (isParty id) (cutsBy sale b u asked) (salesBy sale b u)
 
 -- of the book as its risk is borne, by the seller
-abbrev pub SalesReduced : Book → User → ℕ → Result → Type 0
+abbrev pub SalesReduced : Book → User → ℕ → Result Book → Type 0
 SalesReduced b u asked r = ReducedOf ownSale (borneBook b) (borneUser (b .users) u) asked (borneResult r)

@@ -1,19 +1,12 @@
 -- A walk over bytes: the answer so far, with that of the places left, is the whole answer; and a list filled with one value place by place. Assumes nothing.
-use Rattle.base.specs.Basics.{_≡_, refl, sym, ap, _∙_, Bool, true, false, _&&_, List, ℕ, _+_, _≤_, _<_, add-one, arith, eqb, length, drop, getD, set}
+use Rattle.base.specs.Basics.{_≡_, refl, sym, ap, _∙_, Bool, true, _&&_, List, ℕ, _+_, _≤_, _<_, add-one, arith, eqb, length, drop, getD, set}
 use Rattle.base.specs.Basics.{replicate, length-set, length-replicate, getD-replicate, drop-of-length-le, drop-cons, ext-getD}
+use Rattle.base.proofs.Tests.{and-assoc, and-true}
 use Rattle.base.proofs.Stores.{set-front}
 use Rattle.base.specs.Lists.{all}
 use Rattle.log_format.specs.Fits.{sameBytes, zeros}
 
 -- ---- the answer so far and that of the rest
-
-and-assoc : (a b c : Bool) → ((a && b) && c) ≡ (a && (b && c))
-and-assoc true b c = refl
-and-assoc false b c = refl
-
-and-true : (a : Bool) → (a && true) ≡ a
-and-true true = refl
-and-true false = refl
 
 -- the answer so far, with that of what is left, is the whole one
 pub record Answering (so-far rest whole : Bool) : Type 0 where

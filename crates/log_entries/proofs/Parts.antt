@@ -1,7 +1,7 @@
 -- Parts of a log that are lent to be written: the held book, all that stands before the entries, bytes made 0. Assumes nothing.
-use Rattle.base.specs.Basics.{_≡_, refl, sym, ap, ap₂, _∙_, List, [], _∷_, _++_, append-assoc, append-nil, ℕ, _+_, _-_, _*_, _≤_, _<_, arith, length}
-use Rattle.base.specs.Basics.{take, drop, replicate, length-append, length-take, length-drop, length-replicate, drop-of-length-le, sets, take-all}
-use Rattle.base.specs.Basics.{take-length, take-at, drop-at, drop-drop, eq-eqb, le-leb, lt-leb, ne-eqb}
+use Rattle.base.specs.Basics.{_≡_, refl, sym, ap, ap₂, _∙_, List, [], _∷_, _++_, append-assoc, ℕ, _+_, _-_, _*_, _≤_, _<_, arith, length}
+use Rattle.base.specs.Basics.{take, drop, replicate, length-append, length-drop, length-replicate, sets, take-all}
+use Rattle.base.specs.Basics.{take-at, drop-at, drop-drop, eq-eqb, le-leb, lt-leb, ne-eqb}
 use borrow.Rule.Slice.PartMut.{putMid}
 use Rattle.fields.proofs.Pack.{setFields-whole}
 use Rattle.fields.proofs.Sets.{length-part, part-sets, sets-right, sets-whole}
@@ -19,25 +19,6 @@ pub head-put : (l : List ℕ) (count held : ℕ) → length l ≡ 12
     → setField 4 8 held (setField 4 4 count (setField 1 3 0 (setField 3 0 0x4C_44_47 l))) ≡ logHead count held
 unfolding logHead logMark setFields size
 head-put l count held e = setFields-whole (3 ∷ 1 ∷ 4 ∷ 4 ∷ []) (0x4C_44_47 ∷ 0 ∷ count ∷ held ∷ []) l refl e
-
--- ---- the held book
-
--- bytes copied to the front of a list, with 0 in the place of all that is behind them
-pub front-filled : (front l copied rest : List ℕ) → length front ≤ length l
-    → copied ≡ take (length front) front ++ drop (length front) (take (length front) l)
-    → rest ≡ replicate (length (take (length (copied ++ drop (length front) l) - length front) (drop (length front) (copied ++ drop (length front) l)))) 0
-    → putMid (length front) (length (copied ++ drop (length front) l) - length front) (copied ++ drop (length front) l) rest ≡ padded (length l) front
-unfolding padded
-front-filled front l copied rest fits at-front behind =
-    let n = length front in
-    let back = drop n l in
-    let k : length (take n l) ≤ n = rw length-take (omega arith) in
-    let same : copied ≡ front = at-front ∙ rw (take-length, drop-of-length-le (take n l) k, append-nil) in
-    let m : length (front ++ back) - n ≡ length l - n = rw (length-append, length-drop) (omega (arith, fits)) in
-    let end : drop n (front ++ back) ≡ back = drop-at front back n refl in
-    let short : length back ≤ length l - n = rw length-drop (omega arith) in
-    let zeros : rest ≡ replicate (length l - n) 0 = behind ∙ rw (same, m, end, take-all (length l - n) back short, length-drop) in
-    rw (same, m, end, take-at front back n refl, zeros, drop-of-length-le back {i = length l - n} short, append-nil)
 
 -- ---- all that stands before the entries
 

@@ -35,7 +35,7 @@ module _ (limits : Limits) where
           → ((u : User) → Done limits (runFor limits n (reduced limits b u .book) .book) → Done limits (runFor limits m (reduced limits b u .book) .book) → runFor limits n (reduced limits b u .book) ≡ runFor limits m (reduced limits b u .book))
           → Done limits (onward limits b o (runFor limits n) .book) → Done limits (onward limits b o (runFor limits m) .book) → onward limits b o (runFor limits n) ≡ onward limits b o (runFor limits m)
       go none ih x y = refl
-      go (some u) ih x y = ap (λ (rest : Result). onward limits b (some u) (λ c. rest)) (ih u x y)
+      go (some u) ih x y = ap (λ (rest : Result Book). onward limits b (some u) (λ c. rest)) (ih u x y)
 
   noted-entries : (n : ℕ) (b : Book) (es : List (List ℕ)) → length (noted limits n b es) ≡ runFor limits n b .answer .reductions + length es
   unfolding noted noting runFor onward only ofRun

@@ -57,7 +57,7 @@ module _ (limits : Limits) where
 -- ---- a run that a full log may stop
 
 -- its cuts are kept and its totals are of them; where it returns 0 no user short of cover has an eligible trade
-pub record RanWithin (limits : Limits) (b : Book) (r : Result) : Type 0 where
+pub record RanWithin (limits : Limits) (b : Book) (r : Result Book) : Type 0 where
   pub sound : Sound (r .book)
   pub lowered : Pairwise Lowered (b .trades) (r .book .trades)
   pub moved : Moved b (r .book) (λ a. pos 0) (pos (r .answer .mwh)) (pos (r .answer .worth))
@@ -68,7 +68,7 @@ pub run-within : (limits : Limits) (n : ℕ) (b : Book) → Sound b → RanWithi
 unfolding runWithin stopped AllCovered
 run-within limits n b s = go (nextReduced limits (r .book) (r .book .users)) refl
   where
-    r : Result
+    r : Result Book
     r = runFor limits n b
 
     go : (o : Option User) → nextReduced limits (r .book) (r .book .users) ≡ o → RanWithin limits b (record { answer = stopped o (r .answer); book = r .book })

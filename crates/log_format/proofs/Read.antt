@@ -2,10 +2,11 @@
 use Rattle.base.specs.Basics.{_≡_, refl, sym, ap, ap₂, subst, _∙_, List, [], _∷_, _++_, ℕ, zero, suc, _+_, _-_, _*_, _≤_, _<_, arith, T, eqb, eqb→eq, leb}
 use Rattle.base.specs.Basics.{leb→le, ltb, length, take, drop, length-drop, length-replicate, drop-drop, length-take-le, take-add, take-all, take-take}
 use Rattle.base.proofs.Tests.{and-l, and-r}
+use Rattle.laws.proofs.Cuts.{length-together}
 use Rattle.fields.proofs.Field.{all-bytes-drop, all-bytes-take, field-lt, toBytes-field}
 use Rattle.fields.proofs.{Records.bytesOfRecords-recordsOf, Records.length-recordsOf, Records.mul-suc-front, Sets.take-of-drop}
 use Rattle.fields.specs.{Field.AllBytes, Field.field, Field.toBytes, Layout.Every, Layout.EveryPart, Layout.bytesOfRecords, Layout.recordsOf}
-use Rattle.rules.specs.{Book.Trade, Reduction.together}
+use Rattle.rules.specs.{Book.Trade}
 use Rattle.book_format.specs.Book.{tradeCount, tradesOf}
 use Rattle.log_format.proofs.{Padded.padded-of, Parts.EntryFits, Parts.Headed, Parts.head-made, Raises.raises-first}
 use Rattle.log_format.specs.Fits.{LogOf, allCuts, cutsRest, entriesRest, heldRest, holdsBook, logFits, logFormed, raisesWithin, restsZero, sameBytes}
@@ -24,12 +25,6 @@ pub length-entries-in : (m n : ℕ) (l : List ℕ) → length (entriesIn m n l) 
 unfolding entriesIn
 length-entries-in m zero l = refl
 length-entries-in m (suc n) l = ap suc (length-entries-in m n l)
-
-length-together : (cs ds : List ℕ) → length ds ≡ length cs → length (together cs ds) ≡ length cs
-unfolding together
-length-together [] ds e = refl
-length-together (c ∷ cs) [] e = absurd (omega arith)
-length-together (c ∷ cs) (d ∷ ds) e = ap suc (length-together cs ds (omega arith))
 
 cuts-small : (k : ℕ) (s : List ℕ) → AllBytes s → Every (λ c. c < 4294967296) (recordsOf cutSize (field cutSize 0) k s)
 unfolding recordsOf

@@ -3,7 +3,7 @@ use Rattle.base.specs.Basics.{_≡_, Bool, true, false, cond, _&&_, _||_, Optio
 use Rattle.base.specs.Basics.{length, take, drop, replicate}
 use Rattle.base.specs.Lists.{all}
 use Rattle.rules.specs.Book.{Trade, bilateralForDay}
-use Rattle.rules.specs.Questions.{Question, numberOf, refusal}
+use Rattle.rules.specs.Questions.{Question, refusal}
 use Rattle.rules.specs.Reduction.{together}
 use Rattle.book_format.specs.Book.{tradeCount, tradesOf}
 use Rattle.log_format.specs.Log.{cutSize, entriesAt, entriesBytes, entriesOf, entriesRoom, entryAt, entryCount, entrySize, heldAt, heldLength, heldOf, heldRoom, logBytes, logHead, logMark, logMarkOf, logSize, logZero, mostEntries, padded}
@@ -86,7 +86,7 @@ aboutLog (some l) s = record { number = 19; holds = logFits l s } ∷ []
 
 -- its number, 0 where it is answered by yes or not asked
 unfoldable pub logNumber : Option (List ℕ) → List ℕ → ℕ
-logNumber log s = numberOf (refusal (aboutLog log s))
+logNumber log s = refusal (aboutLog log s)
 
 -- ---- the start of a log
 

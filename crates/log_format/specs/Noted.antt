@@ -4,9 +4,8 @@ use Rattle.base.specs.Basics.{Bool, cond, Option, none, some, List, [], _∷_, 
 use Rattle.rules.specs.Book.{Book, User, find}
 use Rattle.rules.specs.Calls.{posting, morningCall, afternoonCall, reduction, run, Answer, Call, Result, effect, nextReduced, reduced, runFor}
 use Rattle.rules.specs.Levels.{Limits}
-use Rattle.rules.specs.Questions.{Question}
+use Rattle.rules.specs.Questions.{Question, after}
 use Rattle.rules.specs.Reduction.{cuts, target}
-use Rattle.book_format.specs.After.{after}
 use Rattle.log_format.specs.Log.{entryCount, logBytes, mostEntries}
 use Rattle.log_format.specs.Withdrawal.{returned, withdrawn}
 
@@ -34,7 +33,7 @@ module _ (limits : Limits) where
   entryOf b u = cuts b u (target limits b u)
 
   -- a run of at most n reductions that stops where one more is due; it "keeps its cuts"
-  unfoldable pub runWithin : ℕ → Book → Result
+  unfoldable pub runWithin : ℕ → Book → Result Book
   runWithin n b =
       let r = runFor limits n b in
       record { answer = stopped (nextReduced limits (r .book) (r .book .users)) (r .answer); book = r .book }
@@ -52,7 +51,7 @@ module _ (limits : Limits) where
 -- ---- every call
 
 -- "an accepted posting, list or guarantee call empties it"
-unfoldable pub emptying : Result → Entered
+unfoldable pub emptying : Result Book → Entered
 emptying r = record { answer = r .answer; book = r .book; entries = [] }
 
 module _ (limits : Limits) where

@@ -1,7 +1,6 @@
 -- The number of question 19 by its answer, a log emptied, the room of a log, and a reduction noted. Assumes nothing.
-use Rattle.base.specs.Basics.{_≡_, refl, sym, ap, subst, _∙_, Bool, true, false, List, [], ℕ, zero, suc, _+_, _-_, _*_, arith, T, ltb, le-ltb, lt-ltb}
+use Rattle.base.specs.Basics.{_≡_, refl, sym, ap, subst, _∙_, Bool, true, false, List, [], ℕ, _+_, _-_, _*_, arith, T, ltb, le-ltb, lt-ltb}
 use Rattle.base.proofs.Linear.{by-order}
-use Rattle.book_format.specs.After.{after}
 use Rattle.fields.specs.Field.{AllBytes}
 use Rattle.log_entries.proofs.Entries.{entries-dropped, log-sealed}
 use Rattle.log_entries.proofs.Fitting.{fitting-count, fitting-entries}
@@ -10,31 +9,27 @@ use Rattle.log_format.proofs.Read.{fits-facts}
 use Rattle.log_format.specs.Fits.{aboutLog, logFits, logNumber}
 use Rattle.log_format.specs.Log.{entriesAt, entryCount, entrySize, logBytes}
 use Rattle.log_format.specs.Noted.{emptiedBy, room}
-use Rattle.rules.specs.Questions.{numberOf, refusal}
+use Rattle.rules.specs.Questions.{after, refusal}
 use Rattle.store.specs.Store.{given}
 use Rattle.log_lent.specs.Lent.{Emptiable, NotedLent, roomIn}
+use Rattle.laws.proofs.Refusals.{after-nonzero}
 
 -- ---- question 19
 
 module _ (l s : List ℕ) {lent : Bool} where
   pub not-lent : lent ≡ false → 0 ≡ logNumber (given lent l) s
-  unfolding given logNumber aboutLog refusal numberOf
+  unfolding given logNumber aboutLog refusal after
   not-lent e = rw e
 
   pub log-fits : lent ≡ true → logFits l s ≡ true → 0 ≡ logNumber (given lent l) s
-  unfolding given logNumber aboutLog refusal numberOf
+  unfolding given logNumber aboutLog refusal after
   log-fits e f = rw (e, f)
 
   pub log-unfit : lent ≡ true → logFits l s ≡ false → 19 ≡ logNumber (given lent l) s
-  unfolding given logNumber aboutLog refusal numberOf
+  unfolding given logNumber aboutLog refusal after
   log-unfit e f = rw (e, f)
 
 -- ---- emptied
-
-after-refused : {x : List ℕ} (y : List ℕ) (n : ℕ) → (n ≡ 0 → ⊥) → x ≡ after n (λ i. x) y
-unfolding after
-after-refused y zero h = absurd (h refl)
-after-refused y (suc n) h = refl
 
 module _ (l s : List ℕ) {lent : Bool} (number : ℕ) where
   pub stays-not-lent : lent ≡ false → l ≡ emptiedBy lent number s l
@@ -43,7 +38,7 @@ module _ (l s : List ℕ) {lent : Bool} (number : ℕ) where
 
   pub stays-refused : lent ≡ true → (number ≡ 0 → ⊥) → l ≡ emptiedBy lent number s l
   unfolding emptiedBy
-  stays-refused e h = rw e (after-refused (logBytes [] s) number h)
+  stays-refused e h = rw e (sym (after-nonzero (λ n. l) (logBytes [] s) h))
 
   pub emptied : lent ≡ true → number ≡ 0 → Emptiable l s → AllBytes l → {count : ℕ} → count ≡ entryCount l → {l' m : List ℕ} → l' ≡ cleared entriesAt (entrySize * count) l → m ≡ sealed 0 s l'
       → m ≡ emptiedBy lent number s l

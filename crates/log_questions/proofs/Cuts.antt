@@ -4,6 +4,7 @@ use Rattle.base.specs.Basics.{not-suc-le-zero, arith, length, take, drop, getD,
 use Rattle.base.specs.Basics.{getD-set-same, sets}
 use Rattle.base.proofs.Stores.{here-or-apart}
 use Rattle.base.proofs.Storing.{Storing, storing-start, storing-next, storing-end}
+use Rattle.laws.proofs.Cuts.{length-together}
 use Rattle.fields.proofs.Field.{field-part}
 use Rattle.fields.proofs.Records.{getD-recordsOf, length-recordsOf}
 use Rattle.fields.specs.Field.{field}
@@ -11,12 +12,6 @@ use Rattle.rules.specs.Reduction.{together}
 use Rattle.log_questions.specs.Form.{Sums, cutsFrom}
 
 -- ---- two cuts of each trade as one
-
-pub length-together : (cs ds : List ℕ) → length cs ≡ length ds → length (together cs ds) ≡ length cs
-unfolding together
-length-together [] ds e = refl
-length-together (c ∷ cs) [] e = absurd (omega arith)
-length-together (c ∷ cs) (d ∷ ds) e = ap suc (length-together cs ds (omega arith))
 
 getD-together : (cs ds : List ℕ) (k : ℕ) → k < length cs → k < length ds → getD (together cs ds) k 0 ≡ getD cs k 0 + getD ds k 0
 unfolding together

@@ -1,28 +1,28 @@
 -- An accepted posting on a book in bytes, as facts: what its questions tell, and the bytes that it leaves; and the way back. Assumes nothing.
-use Rattle.base.specs.Basics.{_≡_, refl, sym, ap, _∙_, Bool, true, false, _&&_, Option, none, some, List, [], _∷_, ℕ, _<_, T, ltb, ltb→lt}
+use Rattle.base.specs.Basics.{_≡_, refl, sym, ap, _∙_, Bool, true, false, _&&_, Option, List, [], _∷_, ℕ, _<_, T, ltb, ltb→lt, suc, zero}
 use Rattle.base.specs.Basics.{lt→ltb, ℤ, _+ℤ_}
 use Rattle.book_format.proofs.Formed.{book-passed}
 use Rattle.book_format.proofs.Passed.{passed-of}
 use Rattle.book_format.proofs.Written.{bookOf-bytesOf}
-use Rattle.book_format.specs.After.{CalledAfter, after, stepAfter, unchanged}
+use Rattle.book_format.specs.After.{CalledAfter}
 use Rattle.book_format.specs.Book.{bookOf, bytesOf}
 use Rattle.book_format.specs.Questions.{aboutBytes, bookNumber}
 use Rattle.book_format.specs.Steps.{inBytes}
 use Rattle.laws.proofs.Posting.{posting-sound}
-use Rattle.laws.proofs.Refusals.{first-yes, number-none}
+use Rattle.laws.proofs.Refusals.{first-yes}
 use Rattle.laws.specs.Sound.{Sound}
 use Rattle.base.proofs.Tests.{and-i, and-l, and-r}
 use Rattle.log_format.proofs.Noted.{posting-empties}
-use Rattle.requests.proofs.Emptied.{about-numbered, accepted-with, log-off, log-on, with-opening}
+use Rattle.requests.proofs.Emptied.{accepted-with, log-off, log-on, with-opening}
 use Rattle.requests.proofs.Opened.{opening-zero}
 use Rattle.requests.proofs.Passed.{passed-called, passed-carried}
 use Rattle.requests.specs.Carried.{Carried}
 use Rattle.requests.specs.Request.{call, actOf, limitsOn, openingWith, settingOf}
 use Rattle.rules.specs.Book.{Book, at, find}
-use Rattle.rules.specs.Calls.{posting, Answer, about, effect, entryInRange, idKnown, only}
+use Rattle.rules.specs.Calls.{posting, Answer, about, callAfter, effect, entryInRange, idKnown, only, resultIn, unchanged}
 use Rattle.rules.specs.Changes.{change, posted, withUsers}
 use Rattle.rules.specs.Levels.{Limits}
-use Rattle.rules.specs.Questions.{decided, known, numberOf, refusal}
+use Rattle.rules.specs.Questions.{after, known, refusal}
 use Rattle.rules.specs.Signed.{within}
 
 -- the book after a posting
@@ -31,7 +31,7 @@ postedBook id area z b = withUsers b (change id (posted area z) (b .users))
 
 -- what the questions of an accepted posting tell
 pub record Accepted (s : List ℕ) (id a : ℕ) (z : ℤ) : Type 0 where
-  pub book : refusal (aboutBytes s) ≡ none
+  pub book : refusal (aboutBytes s) ≡ 0
   pub user : T (known (bookOf s .users) id)
   pub area : a < 3
   pub range : T (within 1000000 (at (find (bookOf s .users) id .physical) a +ℤ z))
@@ -42,15 +42,15 @@ unfolding postedBook
 sound-after {s} {id} {area} {z} q = posting-sound (bookOf s) id area z (passed-of s (q .book) .sound) (q .user) (q .area) (q .range)
 
 -- the number of the step is the refusal's
-number-is : (limits : Limits) (s : List ℕ) (id area : ℕ) (z : ℤ) (o : Option ℕ)
-    → decided o (unchanged s) (inBytes (effect limits (bookOf s) (posting id area z))) .answer .number ≡ numberOf o
-unfolding decided numberOf unchanged inBytes effect only
-number-is limits s id area z none = refl
-number-is limits s id area z (some n) = refl
+number-is : (limits : Limits) (s : List ℕ) (id area : ℕ) (z : ℤ) (n : ℕ)
+    → after n (unchanged s) (resultIn inBytes (effect limits (bookOf s) (posting id area z))) .answer .number ≡ n
+unfolding after unchanged resultIn effect only
+number-is limits s id area z zero = refl
+number-is limits s id area z (suc n) = refl
 
 -- two questions that are answered by yes
-both-yes : (m n : ℕ) (c d : Bool) → T c → T d → refusal (record { number = m; holds = c } ∷ (record { number = n; holds = d } ∷ [])) ≡ none
-unfolding refusal
+both-yes : (m n : ℕ) (c d : Bool) → T c → T d → refusal (record { number = m; holds = c } ∷ (record { number = n; holds = d } ∷ [])) ≡ 0
+unfolding refusal after
 both-yes m n true true h k = refl
 both-yes m n true false h k = absurd k
 both-yes m n false d h k = absurd h
@@ -60,32 +60,31 @@ both-yes m n false d h k = absurd h
 module _ (limits : Limits) {s : List ℕ} {id area : ℕ} {z : ℤ} where
   module _ {a : Answer} {t : List ℕ} (k : CalledAfter 0 limits s (posting id area z) a t) (h : a .number ≡ 0) where
     -- no question refuses it
-    none-refuses : refusal (about limits (bookOf s) (posting id area z)) ≡ none
-    unfolding stepAfter after
+    none-refuses : refusal (about limits (bookOf s) (posting id area z)) ≡ 0
+    unfolding callAfter after
     none-refuses =
-        number-none (about limits (bookOf s) (posting id area z)) (about-numbered limits (bookOf s) (posting id area z))
-        (sym (number-is limits s id area z (refusal (about limits (bookOf s) (posting id area z)))) ∙ sym (ap (λ (r : Answer). r .number) (k .answer)) ∙ h)
+        sym (number-is limits s id area z (refusal (about limits (bookOf s) (posting id area z)))) ∙ sym (ap (λ (r : Answer). r .number) (k .answer)) ∙ h
 
     -- so each was answered by yes
-    call-accepted : refusal (aboutBytes s) ≡ none → Accepted s id area z
+    call-accepted : refusal (aboutBytes s) ≡ 0 → Accepted s id area z
     unfolding about idKnown entryInRange
     call-accepted e =
-        let q8 = first-yes _ _ none-refuses in
-        let q10 = first-yes _ _ (q8 .1) in
+        let q8 = first-yes _ _ none-refuses tt in
+        let q10 = first-yes _ _ (q8 .1) tt in
         let ok = within 1000000 (at (find (bookOf s .users) id .physical) area +ℤ z) in
         record { book = e; user = q8 .0; area = ltb→lt area 3 (and-l (ltb area 3) ok (q10 .0)); range = and-r (ltb area 3) ok (q10 .0) }
 
     -- the bytes that it leaves
     call-bytes : t ≡ bytesOf (postedBook id area z (bookOf s))
-    unfolding stepAfter after decided inBytes effect postedBook
+    unfolding callAfter after resultIn effect postedBook
     call-bytes = k .bytes ∙ rw none-refuses
 
   -- where every question is answered by yes, the posting is accepted
   call-made : Accepted s id area z → CalledAfter 0 limits s (posting id area z) (only 0) (bytesOf (postedBook id area z (bookOf s)))
-  unfolding stepAfter after decided inBytes effect postedBook about idKnown entryInRange
+  unfolding callAfter after resultIn effect postedBook about idKnown entryInRange
   call-made q =
       let ok = within 1000000 (at (find (bookOf s .users) id .physical) area +ℤ z) in
-      let e : refusal (about limits (bookOf s) (posting id area z)) ≡ none
+      let e : refusal (about limits (bookOf s) (posting id area z)) ≡ 0
       = both-yes 8 10 (known (bookOf s .users) id) (ltb area 3 && ok) (q .user) (and-i (ltb area 3) ok (lt→ltb area 3 (q .area)) (q .range)) in
       record { answer = rw e; bytes = rw e }
 

@@ -3,7 +3,6 @@ use Rattle.base.specs.Basics.{_≡_, _∙_, ap, refl, subst, sym, Option, List,
 use Rattle.base.specs.Basics.{eqb→eq, ℤ}
 use Rattle.base.proofs.Tests.{and-l, and-r}
 use Rattle.base.specs.Lists.{all}
-use Rattle.book_format.specs.After.{after}
 use Rattle.requests.specs.Carried.{Carried}
 use Rattle.requests.specs.Logged.{Posted, lentLog}
 use Rattle.requests.specs.Request.{call, Act, Outcome, Request, request}
@@ -12,6 +11,7 @@ use Rattle.rights.specs.Acting.{CarriedBy, requestBy}
 use Rattle.rights.specs.Logged.{PostedBy}
 use Rattle.rights.specs.Party.{Party, operator}
 use Rattle.rules.specs.Calls.{Answer, only}
+use Rattle.rules.specs.Questions.{after}
 use Rattle.sequence.specs.Acting.{endedBy, thenBy, Deed, LinkedBy, linksOf}
 use Rattle.sequence.specs.Links.{ended, then, Linked, acceptedNumber, isAccepted}
 use Rattle.orders.proofs.Lines.{lines-order-free}

@@ -1,24 +1,24 @@
 -- The lines of a list whose places all hold 0 are accepted postings one after the other, so that their order is free too. Assumes nothing.
 use Rattle.base.specs.Basics.{_∙_, ap, refl, subst, sym, Option, List, [], _∷_, map, ℕ, T, eqb, length}
-use Rattle.book_format.specs.After.{after}
 use Rattle.book_format.specs.Questions.{bookNumber}
 use Rattle.base.proofs.Tests.{and-i, and-l, and-r}
 use Rattle.orders.proofs.Main.{order-posts, same-end}
 use Rattle.orders.specs.Orders.{Apart, InList, LinesOrderFree, Posting, actsOf, callOf}
 use Rattle.requests.proofs.Accepted.{accepted-lines}
-use Rattle.requests.specs.Request.{call, Act, actBy, actIn, asBytes, linesIn, requestIn, requestOf, settingOf, stepIn}
+use Rattle.requests.specs.Request.{call, Act, actBy, actIn, asBytes, linesIn, outcome, requestIn, requestOf, settingOf, stepIn}
 use Rattle.base.specs.Lists.{all}
 use Rattle.sequence.specs.Links.{Link, acceptedNumber, ended, isAccepted, then}
+use Rattle.rules.specs.Questions.{after}
 
 module _ (store : Option (List ℕ)) where
   -- a line as a posting of its own
   unfoldable linked : List ℕ → Posting → Link
-  linked s p = record { asked = requestOf store (callOf p); given = s; gave = stepIn asBytes (bookNumber s) (settingOf store) s (callOf p) }
+  linked s p = record { asked = requestOf store (callOf p); given = s; gave = outcome (stepIn asBytes (bookNumber s) (settingOf store) s (callOf p)) }
 
   -- the lines, each given 0
   lines-apart : (ps : List Posting) (s : List ℕ) → T (all (λ n. eqb n 0) (linesIn asBytes (settingOf store) s (map (λ p. p .id) ps) (map (λ p. p .area) ps) (map (λ p. p .amount) ps) .numbers))
       → Apart store s ps (linesIn asBytes (settingOf store) s (map (λ p. p .id) ps) (map (λ p. p .area) ps) (map (λ p. p .amount) ps) .book)
-  unfolding linesIn all isAccepted acceptedNumber actsOf callOf linked requestIn actBy actIn
+  unfolding linesIn all isAccepted acceptedNumber actsOf callOf linked requestIn actBy actIn outcome
   lines-apart [] s t = record { links = []; order = record { linked = ended; acts = refl }; accepted = tt }
   lines-apart (p ∷ ps) s t =
       let l = linked s p in

@@ -4,8 +4,7 @@ use mathlib.Core.List.{List, _++_}
 use mathlib.Core.Path.{_≡_}
 use Prim.Native.Nat.{ℕ}
 use lib.ListN.{length, drop}
-use Rattle.rules.specs.Questions.{Question, decided, refusal}
-use Rattle.book_format.specs.After.{after}
+use Rattle.rules.specs.Questions.{Question, after, refusal}
 
 -- the number of the call, and the output after it
 pub record Output : Type 0 where
@@ -22,7 +21,7 @@ accepted bytes out = record { number = 0; bytes = bytes ++ drop (length bytes) o
 
 -- what is written where all questions are answered by yes
 unfoldable pub written : List Question → List ℕ → List ℕ → Output
-written questions bytes out = decided (refusal questions) (refused out) (accepted bytes out)
+written questions bytes out = after (refusal questions) (refused out) (accepted bytes out)
 
 -- the same where the opening questions are answered already, by their number
 unfoldable pub writtenAfter : ℕ → List Question → List ℕ → List ℕ → Output

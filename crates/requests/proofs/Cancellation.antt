@@ -1,41 +1,19 @@
 -- A whole cancellation after its opening questions, and what is claimed of an accepted one. Assumes nothing.
-use Rattle.base.specs.Basics.{_≡_, _∙_, ap, refl, subst, sym, Bool, Option, none, some, List, ℕ, suc, zero, _-_, _≤_, arith, T, leb, leb→le, ltb}
-use Rattle.base.specs.Basics.{ltb→lt}
-use Rattle.laws.proofs.Refusals.{append-yes, first-yes, numbered, refusal-is}
+use Rattle.base.specs.Basics.{_≡_, _∙_, ap, refl, subst, sym, Bool, List, ℕ, suc, zero, _-_, _≤_, arith, T, leb, leb→le}
+use Rattle.laws.proofs.Refusals.{append-yes, first-yes}
 use Rattle.base.proofs.Tests.{and-l}
 use Rattle.rules.specs.Book.{Book, User, find}
-use Rattle.rules.specs.Calls.{about, assignedFallsShort, calledInBeyondMargin, eligibleTrade, idKnown, isShipper, reduction}
+use Rattle.rules.specs.Calls.{about, reduction}
 use Rattle.rules.specs.Levels.{Limits}
-use Rattle.base.specs.Lists.{all}
-use Rattle.rules.specs.Questions.{Question, decided, refusal}
+use Rattle.rules.specs.Questions.{Question, after, refusal}
 use Rattle.rules.specs.Reduction.{eligible, target}
-use Rattle.book_format.specs.After.{after}
 use Rattle.book_format.specs.Book.{bookOf}
 use Rattle.book_format.specs.Questions.{bookNumber}
 use Rattle.cut_sets.specs.Places.{marksAt, setNumber, worthIn}
 use Rattle.cut_sets.proofs.Places.{place-claim, place-more-tries}
 use Rattle.cut_sets.proofs.Reading.{every-set}
-use Rattle.requests.specs.Cancellation.{
-  Cancellation,
-  CancellationClaim,
-  CancelledSet,
-  CancelledSetClaim,
-  Cancels,
-  MoreTries,
-  aboutCancellation,
-  cancellation,
-  cancellationAfter,
-  cancellationIn,
-  cancelled,
-  cancelledFor,
-  marksOf,
-  notCancelled,
-  searchFor,
-  setWorth,
-  triesInRange,
-  wholeWorth,
-  worthSuffices,
-}
+use Rattle.requests.specs.Cancellation.{Cancellation, CancellationClaim, CancelledSet, CancelledSetClaim, Cancels, MoreTries, aboutCancellation, cancellation, cancellationAfter, cancellationIn, cancelled, cancelledFor, marksOf, notCancelled, searchFor}
+use Rattle.requests.specs.Cancellation.{setWorth, triesInRange, wholeWorth, worthSuffices}
 use Rattle.requests.specs.Carried.{Admitted}
 use Rattle.requests.specs.Request.{Setting, limitsOn, opening}
 
@@ -61,40 +39,36 @@ module _ (g : Setting) (s : List ℕ) (id tries : ℕ) where
   own : List Question
   own = aboutCancellation limits (bookOf s) id tries
 
-  own-numbered : T (numbered own)
-  unfolding own numbered aboutCancellation triesInRange about idKnown isShipper calledInBeyondMargin assignedFallsShort eligibleTrade worthSuffices all
-  own-numbered = tt
-
   -- no question refuses it
-  none-refuses : (k : ℕ) → cancellationAfter k limits s id tries .number ≡ 0 → (k ≡ 0) × (refusal own ≡ none)
-  unfolding cancellationAfter after own numbered decided notCancelled
-  none-refuses zero h = (refl, go (refusal own) refl h)
+  none-refuses : (k : ℕ) → cancellationAfter k limits s id tries .number ≡ 0 → (k ≡ 0) × (refusal own ≡ 0)
+  unfolding cancellationAfter after own notCancelled
+  none-refuses zero h = (refl, go (refusal own) h)
     where
-      go : (o : Option ℕ) → refusal own ≡ o → decided o notCancelled (cancelled limits (bookOf s) (find (bookOf s .users) id) tries) .number ≡ 0 → o ≡ none
-      go none e k = refl
-      go (some n) e k = absurd (let l = ltb→lt 0 n (refusal-is (λ i. ltb 0 i) own n own-numbered e) in omega (arith, k))
+      go : (n : ℕ) → after n notCancelled (cancelled limits (bookOf s) (find (bookOf s .users) id) tries) .number ≡ 0 → n ≡ 0
+      go zero k = refl
+      go (suc n) k = absurd (omega (arith, k))
   none-refuses (suc k) h = absurd (omega (arith, h))
 
   module _ (h : cancellation g s id tries .number ≡ 0) where
-    passes : (opening (bookNumber s) g s ≡ 0) × (refusal own ≡ none)
+    passes : (opening (bookNumber s) g s ≡ 0) × (refusal own ≡ 0)
     unfolding cancellationIn
     passes = none-refuses (opening (bookNumber s) g s) h
 
     accepted-is : cancellation g s id tries ≡ cancelled limits (bookOf s) (find (bookOf s .users) id) tries
-    unfolding cancellationIn cancellationAfter decided after own
+    unfolding cancellationIn cancellationAfter after own
     accepted-is = rw (passes .0, passes .1)
 
-    own-none : refusal (aboutCancellation limits (bookOf s) id tries) ≡ none
+    own-none : refusal (aboutCancellation limits (bookOf s) id tries) ≡ 0
     unfolding own
     own-none = passes .1
 
     some-tries : 1 ≤ tries
     unfolding aboutCancellation triesInRange
-    some-tries = leb→le 1 tries (and-l (leb 1 tries) (leb tries 65535) (first-yes _ _ own-none .0))
+    some-tries = leb→le 1 tries (and-l (leb 1 tries) (leb tries 65535) (first-yes _ _ own-none tt .0))
 
     reached : T (worthSuffices (bookOf s) (find (bookOf s .users) id) (target limits (bookOf s) (find (bookOf s .users) id)) .holds)
-    unfolding aboutCancellation
-    reached = first-yes _ _ (append-yes (about limits (bookOf s) (reduction id)) _ (first-yes _ _ own-none .1) .1) .0
+    unfolding aboutCancellation triesInRange worthSuffices
+    reached = first-yes _ _ (append-yes (about limits (bookOf s) (reduction id)) _ (first-yes _ _ own-none tt .1) .1) tt .0
 
 pub cancellation-claim : CancellationClaim
 unfolding cancelled cancelledFor searchFor worthSuffices

@@ -1,16 +1,14 @@
 -- A posting, a guarantee call and a list of postings with a lent log, given or not: from the inner call, which knows of no log, and the log that is emptied where it is accepted. Assumes nothing.
 use Rattle.base.specs.Basics.{_≡_, _∙_, ap, refl, subst, sym, Bool, true, false, Option, none, some, List, [], _++_, append-nil, ℕ, suc, zero, arith}
-use Rattle.base.specs.Basics.{T, ltb, ltb→lt, ℤ, length}
-use Rattle.base.specs.Lists.{all}
-use Rattle.laws.proofs.Refusals.{numbered, refusal-is}
-use Rattle.rules.specs.Book.{Book}
-use Rattle.rules.specs.Calls.{posting, morningCall, afternoonCall, reduction, run, Answer, Call, about, assignedFallsShort, assignedSuffices, calledInBeyondMargin, effect, eligibleTrade, entryInRange, idKnown, isShipper, marginExceeded, only}
+use Rattle.base.specs.Basics.{ℤ, length}
+use Rattle.laws.proofs.Refusals.{first-zero}
+use Rattle.rules.specs.Calls.{Answer, Call, Result, about, callAfter, effect, only, resultIn, unchanged}
 use Rattle.rules.specs.Levels.{Limits}
-use Rattle.rules.specs.Questions.{Question, decided, refusal}
-use Rattle.book_format.specs.After.{CalledAfter, after, stepAfter, unchanged}
+use Rattle.rules.specs.Questions.{Question, after, refusal}
+use Rattle.book_format.specs.After.{CalledAfter}
 use Rattle.book_format.specs.Book.{bookOf, bytesOf}
 use Rattle.book_format.specs.Questions.{bookNumber}
-use Rattle.book_format.specs.Steps.{InBytes, inBytes}
+use Rattle.book_format.specs.Steps.{inBytes}
 use Rattle.store.specs.Store.{given}
 use Rattle.log_format.proofs.Noted.{Empties}
 use Rattle.log_format.specs.Fits.{logNumber}
@@ -18,45 +16,34 @@ use Rattle.log_format.specs.Log.{entriesOf, logBytes}
 use Rattle.log_format.specs.Noted.{Entered, callEntered, emptiedBy, emptying, room}
 use Rattle.requests.proofs.Lines.{lines-answer}
 use Rattle.requests.proofs.Logged.{actLent, lines-log, logged-call, logged-without, without-number}
-use Rattle.requests.proofs.Opened.{call-outcome, first-zero, outcome}
 use Rattle.requests.specs.Carried.{Carried}
 use Rattle.requests.specs.Logged.{AdmittedWith, LoggedAfter, PostedAfter, lentLog, listWith}
-use Rattle.requests.specs.Request.{call, Lines, Outcome, Setting, actBy, actIn, actWith, asBytes, callIn, emptiedIn, enteredIn, limitsOn, linesIn, linesOf, loggedAfter, opening, openingLines, openingWith, openingWithIn, refusedGiven, request, requestAfter, requestIn, settingOf, stepIn}
-
--- no question of a call has the number 0
-pub about-numbered : (limits : Limits) (b : Book) (c : Call) → T (numbered (about limits b c))
-unfolding about idKnown isShipper entryInRange assignedSuffices assignedFallsShort marginExceeded calledInBeyondMargin eligibleTrade numbered all
-about-numbered limits b (posting id area amount) = tt
-about-numbered limits b (morningCall id) = tt
-about-numbered limits b (afternoonCall id) = tt
-about-numbered limits b (reduction id) = tt
-about-numbered limits b run = tt
+use Rattle.requests.specs.Request.{call, Lines, Outcome, Setting, actBy, actIn, actWith, asBytes, callIn, emptiedIn, enteredIn, limitsOn, linesIn, linesOf, loggedAfter, opening, openingLines, openingWith, openingWithIn, outcome, refusedGiven, request}
+use Rattle.requests.specs.Request.{requestAfter, requestIn, settingOf, stepIn}
 
 -- ---- calls that empty the log
 
 -- what such a call gives without a log, with the log emptied
-withEmptied : List ℕ → InBytes → Outcome (List ℕ)
-withEmptied l x = record { answer = x .answer; numbers = []; book = x .bytes; log = some (after (x .answer .number) (λ n. l) (logBytes [] (x .bytes))) }
+withEmptied : List ℕ → Result (List ℕ) → Outcome (List ℕ)
+withEmptied l x = record { answer = x .answer; numbers = []; book = x .book; log = some (after (x .answer .number) (λ n. l) (logBytes [] (x .book))) }
 
 module _ {c : Call} (e : Empties c) where
-  decided-emptied : (limits : Limits) (l s : List ℕ) (o : Option ℕ) → refusal (about limits (bookOf s) c) ≡ o
-      → decided o (refusedGiven (some l) s) (enteredIn asBytes (emptying (effect limits (bookOf s) c))) ≡ withEmptied l (decided o (unchanged s) (inBytes (effect limits (bookOf s) c)))
-  unfolding decided enteredIn emptying inBytes refusedGiven unchanged withEmptied only after numbered
-  decided-emptied limits l s none k =
+  own-emptied : (limits : Limits) (l s : List ℕ) (n : ℕ)
+      → after n (refusedGiven (some l) s) (enteredIn asBytes (emptying (effect limits (bookOf s) c))) ≡ withEmptied l (after n (unchanged s) (resultIn inBytes (effect limits (bookOf s) c)))
+  unfolding after enteredIn emptying resultIn refusedGiven unchanged withEmptied only
+  own-emptied limits l s zero =
       let r = effect limits (bookOf s) c in
       ap (λ (n : ℕ). record { answer = r .answer; numbers = []; book = bytesOf (r .book); log = some (after n (λ i. l) (logBytes [] (bytesOf (r .book)))) }) (sym (e .number limits (bookOf s)))
-  decided-emptied limits l s (some zero) k =
-      absurd (let n = ltb→lt 0 0 (refusal-is (λ i. ltb 0 i) (about limits (bookOf s) c) 0 (about-numbered limits (bookOf s) c) k) in omega arith)
-  decided-emptied limits l s (some (suc n)) k = refl
+  own-emptied limits l s (suc n) = refl
 
-  emptied-after : (number : ℕ) (limits : Limits) (l s : List ℕ) → loggedAfter asBytes number limits l s c ≡ withEmptied l (stepAfter number limits s c)
-  unfolding loggedAfter stepAfter after refusedGiven unchanged withEmptied only
+  emptied-after : (number : ℕ) (limits : Limits) (l s : List ℕ) → loggedAfter asBytes number limits l s c ≡ withEmptied l (callAfter inBytes number limits s c)
+  unfolding loggedAfter callAfter after refusedGiven unchanged withEmptied only
   emptied-after (suc n) limits l s = refl
   emptied-after zero limits l s =
-      ap (λ (qs : List Question). decided (refusal (about limits (bookOf s) c ++ qs)) (refusedGiven (some l) s) (enteredIn asBytes (callEntered limits (room l) (entriesOf s l) (bookOf s) c))) (e .last (room l))
-      ∙ ap (λ (qs : List Question). decided (refusal qs) (refusedGiven (some l) s) (enteredIn asBytes (callEntered limits (room l) (entriesOf s l) (bookOf s) c))) (append-nil (about limits (bookOf s) c))
-      ∙ ap (λ (x : Entered). decided (refusal (about limits (bookOf s) c)) (refusedGiven (some l) s) (enteredIn asBytes x)) (e .entered limits (room l) (entriesOf s l) (bookOf s))
-      ∙ decided-emptied limits l s (refusal (about limits (bookOf s) c)) refl
+      ap (λ (qs : List Question). after (refusal (about limits (bookOf s) c ++ qs)) (refusedGiven (some l) s) (enteredIn asBytes (callEntered limits (room l) (entriesOf s l) (bookOf s) c))) (e .last (room l))
+      ∙ ap (λ (qs : List Question). after (refusal qs) (refusedGiven (some l) s) (enteredIn asBytes (callEntered limits (room l) (entriesOf s l) (bookOf s) c))) (append-nil (about limits (bookOf s) c))
+      ∙ ap (λ (x : Entered). after (refusal (about limits (bookOf s) c)) (refusedGiven (some l) s) (enteredIn asBytes x)) (e .entered limits (room l) (entriesOf s l) (bookOf s))
+      ∙ own-emptied limits l s (refusal (about limits (bookOf s) c))
 
   pub logged-emptied : {n : ℕ} {g : Setting} {s : List ℕ} {number : ℕ} {limits : Limits} {a : Answer} {t l m : List ℕ} (lent : Bool) → AdmittedWith n g (given lent l) s number limits
       → CalledAfter number limits s c a t → m ≡ emptiedBy lent (a .number) t l → LoggedAfter n (actLent g (given lent l) (call c)) s a t l m
@@ -66,7 +53,7 @@ module _ {c : Call} (e : Empties c) where
   logged-emptied {n} {g} {s} {number} {limits} {a} {t} {l} {m} true d k h =
       let e = sym (emptied-after number limits l s) in
       let emptied = ap (λ (i : ℕ). after i (λ j. l) (logBytes [] t)) (ap (λ (r : Answer). r .number) (k .answer))
-      ∙ ap (λ (x : List ℕ). after (stepAfter number limits s c .answer .number) (λ i. l) (logBytes [] x)) (k .bytes) in
+      ∙ ap (λ (x : List ℕ). after (callAfter inBytes number limits s c .answer .number) (λ i. l) (logBytes [] x)) (k .bytes) in
       logged-call d (record {
         answer = k .answer ∙ ap (λ (o : Outcome (List ℕ)). o .answer) e;
         bytes = k .bytes ∙ ap (λ (o : Outcome (List ℕ)). o .book) e;
@@ -151,13 +138,12 @@ module _ {c : Call} (e : Empties c) (g : Setting) (s : List ℕ) where
   asked log = openingWith (bookNumber s) g log s
 
   -- the inner call after the opening questions
-  emptied-step : (log : Option (List ℕ)) → let x = stepAfter (asked log) (limitsOn g (bookOf s)) s c in
-      (request (actLent g log (call c)) s .answer ≡ x .answer) × (request (actLent g log (call c)) s .book ≡ x .bytes)
+  emptied-step : (log : Option (List ℕ)) → let x = callAfter inBytes (asked log) (limitsOn g (bookOf s)) s c in
+      (request (actLent g log (call c)) s .answer ≡ x .answer) × (request (actLent g log (call c)) s .book ≡ x .book)
   unfolding requestIn actBy actIn actWith stepIn outcome withEmptied
   emptied-step none =
-      let limits = limitsOn g (bookOf s) in
-      let k = call-outcome (opening (bookNumber s) g s) limits s c ∙ ap (λ (n : ℕ). outcome (stepAfter n limits s c)) (sym (without-number (bookNumber s) g s)) in
-      (ap (λ (o : Outcome (List ℕ)). o .answer) k, ap (λ (o : Outcome (List ℕ)). o .book) k)
+      let k = ap (λ (n : ℕ). callAfter inBytes n (limitsOn g (bookOf s)) s c) (sym (without-number (bookNumber s) g s)) in
+      (ap (λ (x : Result (List ℕ)). x .answer) k, ap (λ (x : Result (List ℕ)). x .book) k)
   emptied-step (some l) =
       let k = emptied-after e (asked (some l)) (limitsOn g (bookOf s)) l s in
       (ap (λ (o : Outcome (List ℕ)). o .answer) k, ap (λ (o : Outcome (List ℕ)). o .book) k)
@@ -165,27 +151,27 @@ module _ {c : Call} (e : Empties c) (g : Setting) (s : List ℕ) where
   module _ {log : Option (List ℕ)} {a : Answer} {t : List ℕ} where
     -- an accepted one passed its opening questions
     pub accepted-with : Carried (actLent g log (call c)) s a t → a .number ≡ 0 → asked log ≡ 0
-    unfolding stepAfter after unchanged only
+    unfolding callAfter after unchanged only
     accepted-with k h = go (asked log) refl
       where
         go : (n : ℕ) → asked log ≡ n → n ≡ 0
         go zero i = refl
         go (suc n) i =
-            absurd (let x : _≡_ {A = ℕ} 0 (suc n) = sym h ∙ ap (λ (r : Answer). r .number) (k .answer ∙ emptied-step log .0 ∙ ap (λ (m : ℕ). stepAfter m (limitsOn g (bookOf s)) s c .answer) i) in omega arith)
+            absurd (let x : _≡_ {A = ℕ} 0 (suc n) = sym h ∙ ap (λ (r : Answer). r .number) (k .answer ∙ emptied-step log .0 ∙ ap (λ (m : ℕ). callAfter inBytes m (limitsOn g (bookOf s)) s c .answer) i) in omega arith)
 
     -- with its log and without it
     pub log-off : asked log ≡ 0 → Carried (actLent g log (call c)) s a t → Carried (callIn g c) s a t
     log-off h k =
         let n : asked log ≡ asked none = h ∙ sym (without-number (bookNumber s) g s ∙ with-opening (bookNumber s) g log s h) in
         record {
-          answer = k .answer ∙ emptied-step log .0 ∙ ap (λ (m : ℕ). stepAfter m (limitsOn g (bookOf s)) s c .answer) n ∙ sym (emptied-step none .0);
-          bytes = k .bytes ∙ emptied-step log .1 ∙ ap (λ (m : ℕ). stepAfter m (limitsOn g (bookOf s)) s c .bytes) n ∙ sym (emptied-step none .1);
+          answer = k .answer ∙ emptied-step log .0 ∙ ap (λ (m : ℕ). callAfter inBytes m (limitsOn g (bookOf s)) s c .answer) n ∙ sym (emptied-step none .0);
+          bytes = k .bytes ∙ emptied-step log .1 ∙ ap (λ (m : ℕ). callAfter inBytes m (limitsOn g (bookOf s)) s c .book) n ∙ sym (emptied-step none .1);
         }
 
     pub log-on : asked log ≡ 0 → Carried (callIn g c) s a t → Carried (actLent g log (call c)) s a t
     log-on h k =
         let n : asked none ≡ asked log = without-number (bookNumber s) g s ∙ with-opening (bookNumber s) g log s h ∙ sym h in
         record {
-          answer = k .answer ∙ emptied-step none .0 ∙ ap (λ (m : ℕ). stepAfter m (limitsOn g (bookOf s)) s c .answer) n ∙ sym (emptied-step log .0);
-          bytes = k .bytes ∙ emptied-step none .1 ∙ ap (λ (m : ℕ). stepAfter m (limitsOn g (bookOf s)) s c .bytes) n ∙ sym (emptied-step log .1);
+          answer = k .answer ∙ emptied-step none .0 ∙ ap (λ (m : ℕ). callAfter inBytes m (limitsOn g (bookOf s)) s c .answer) n ∙ sym (emptied-step log .0);
+          bytes = k .bytes ∙ emptied-step none .1 ∙ ap (λ (m : ℕ). callAfter inBytes m (limitsOn g (bookOf s)) s c .book) n ∙ sym (emptied-step log .1);
         }

@@ -1,37 +1,35 @@
 -- A list of postings after its opening questions, asked once: an accepted posting leaves a book that passes them again, so that asking them before each line gives the
 -- same. Assumes nothing.
-use Rattle.base.specs.Basics.{_≡_, _∙_, ap, ap₂, refl, sym, Bool, cond, true, false, Option, none, some, List, [], _∷_, map, ℕ, arith, ltb, ltb→lt}
+use Rattle.base.specs.Basics.{_≡_, _∙_, ap, ap₂, refl, sym, Bool, cond, true, false, List, [], _∷_, map, ℕ, arith, ltb, ltb→lt, suc, zero}
 use Rattle.base.specs.Basics.{ℤ, _+ℤ_}
 use Rattle.fields.specs.Field.{AllBytes}
 use Rattle.laws.proofs.Posting.{posting-sound}
-use Rattle.laws.proofs.Refusals.{first-yes}
+use Rattle.laws.proofs.Refusals.{first-yes, first-zero, second-zero}
 use Rattle.base.proofs.Tests.{and-l, and-r}
 use Rattle.laws.proofs.Changed.{keeps-party}
 use Rattle.laws.specs.Sound.{Sound}
 use Rattle.rules.specs.Book.{Book, Header, User, at, find}
-use Rattle.rules.specs.Calls.{about, effect, entryInRange, idKnown, only, posting}
+use Rattle.rules.specs.Calls.{about, callAfter, effect, entryInRange, idKnown, only, posting, resultIn, unchanged}
 use Rattle.rules.specs.Changes.{change, posted, withUsers}
 use Rattle.rules.specs.Levels.{Limits}
-use Rattle.rules.specs.Questions.{decided, numberOf, refusal}
+use Rattle.rules.specs.Questions.{after, firstOf, refusal}
 use Rattle.rules.specs.Signed.{within}
 use Rattle.book_format.proofs.Passed.{passed}
 use Rattle.book_format.proofs.Written.{all-bytes-bytesOf, bookOf-bytesOf, written-number}
-use Rattle.book_format.specs.After.{after, stepAfter, unchanged}
 use Rattle.book_format.specs.Book.{bookOf}
 use Rattle.book_format.specs.Questions.{bookNumber}
 use Rattle.book_format.specs.Steps.{inBytes}
 use Rattle.store.specs.Store.{storeNumber}
-use Rattle.requests.proofs.Opened.{first-zero, second-zero}
-use Rattle.requests.specs.Request.{Lines, Setting, aboutLines, asBytes, firstOf, linesFit, linesIn, opening, openingIn, openingLines, stepIn}
+use Rattle.requests.specs.Request.{Lines, Setting, aboutLines, asBytes, linesFit, linesIn, opening, openingIn, openingLines, stepIn}
 
 -- ---- the opening questions
 
 -- 15 by itself
-pub fit-number : (v : Lines) → numberOf (refusal (aboutLines v)) ≡ cond (linesFit v) 0 15
-unfolding aboutLines refusal numberOf
+pub fit-number : (v : Lines) → refusal (aboutLines v) ≡ cond (linesFit v) 0 15
+unfolding aboutLines refusal after
 fit-number v = go (linesFit v)
   where
-    go : (c : Bool) → numberOf (refusal (record { number = 15; holds = c } ∷ [])) ≡ cond c 0 15
+    go : (c : Bool) → refusal (record { number = 15; holds = c } ∷ []) ≡ cond c 0 15
     go true = refl
     go false = refl
 
@@ -40,7 +38,7 @@ pub lines-opening : (n : ℕ) (g : Setting) (v : Lines) (s : List ℕ) → openi
 unfolding openingIn openingLines
 lines-opening n g v s e =
     let store = storeNumber (g .store) (bookOf s .header .date) in
-    let own = numberOf (refusal (aboutLines v)) in
+    let own = refusal (aboutLines v) in
     let z = first-zero (firstOf n own) store e in
     (fits (linesFit v) (sym (fit-number v) ∙ second-zero n own z), ap (λ (k : ℕ). firstOf k store) (first-zero n own z ∙ sym z) ∙ e)
   where
@@ -82,8 +80,8 @@ unfolding change posted
 change-parties id area z [] = refl
 change-parties id area z (u ∷ us) = λ i. keeps-party (posted area z) (λ v. refl) id u i ∷ change-parties id area z us i
 
-pub posting-onward : (limits : Limits) (s : List ℕ) (id area : ℕ) (z : ℤ) → AllBytes s → bookNumber s ≡ 0 → Onward s (stepAfter 0 limits s (posting id area z) .bytes)
-unfolding stepAfter after decided unchanged inBytes about effect idKnown entryInRange withUsers
+pub posting-onward : (limits : Limits) (s : List ℕ) (id area : ℕ) (z : ℤ) → AllBytes s → bookNumber s ≡ 0 → Onward s (callAfter inBytes 0 limits s (posting id area z) .book)
+unfolding callAfter after unchanged resultIn about effect idKnown entryInRange withUsers
 posting-onward limits s id area z b h = go (refusal (about limits (bookOf s) (posting id area z))) refl
   where
     book : Book
@@ -92,10 +90,10 @@ posting-onward limits s id area z b h = go (refusal (about limits (bookOf s) (po
     next : Book
     next = withUsers book (change id (posted area z) (book .users))
 
-    go : (o : Option ℕ) → refusal (about limits book (posting id area z)) ≡ o → Onward s (decided o (unchanged s) (inBytes (effect limits book (posting id area z))) .bytes)
-    go none e =
-        let q8 = first-yes _ _ e in
-        let q10 = first-yes _ _ (q8 .1) in
+    go : (n : ℕ) → refusal (about limits book (posting id area z)) ≡ n → Onward s (after n (unchanged s) (resultIn inBytes (effect limits book (posting id area z))) .book)
+    go zero e =
+        let q8 = first-yes _ _ e tt in
+        let q10 = first-yes _ _ (q8 .1) tt in
         let ok = within 1000000 (at (find (book .users) id .physical) area +ℤ z) in
         let sound : Sound next = posting-sound book id area z (passed s h .sound) (q8 .0) (ltb→lt area 3 (and-l (ltb area 3) ok (q10 .0))) (and-r (ltb area 3) ok (q10 .0)) in
         let back = bookOf-bytesOf next sound in
@@ -105,7 +103,7 @@ posting-onward limits s id area z b h = go (refusal (about limits (bookOf s) (po
           header = ap (λ (n : Book). n .header) back;
           parties = ap (λ (n : Book). map (λ u. u .party) (n .users)) back ∙ change-parties id area z (book .users);
         }
-    go (some n) e = record { bytes = b; number = h; header = refl; parties = refl }
+    go (suc n) e = record { bytes = b; number = h; header = refl; parties = refl }
 
 -- and so the opening questions of the next posting are passed too: the store is asked on the same date
 pub onward-opening : (g : Setting) {s t : List ℕ} → Onward s t → bookNumber s ≡ 0 → opening (bookNumber s) g s ≡ 0 → opening (bookNumber t) g t ≡ 0

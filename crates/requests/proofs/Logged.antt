@@ -1,19 +1,19 @@
 -- Acts with a lent log, given or not, after the questions of the book, and 26, whose number is n; a lent log that is not given changes nothing. What the public functions stand on.
 -- Assumes nothing.
 use Rattle.base.specs.Basics.{_≡_, _∙_, ap, refl, sym, Option, none, some, List, [], _∷_, _++_, ℕ, suc, zero, ℤ}
-use Rattle.rules.specs.Calls.{Answer, Call, Result, about, effect}
+use Rattle.rules.specs.Calls.{Answer, Call, about}
 use Rattle.rules.specs.Levels.{Limits}
-use Rattle.rules.specs.Questions.{decided, refusal}
-use Rattle.book_format.specs.After.{CalledAfter, after}
+use Rattle.rules.specs.Questions.{after, refusal}
+use Rattle.book_format.specs.After.{CalledAfter}
 use Rattle.book_format.specs.Book.{bookOf}
 use Rattle.log_format.specs.Fits.{aboutLog, logNumber}
 use Rattle.log_format.specs.Log.{entriesOf}
 use Rattle.log_format.specs.Noted.{Entered, callEntered, hasEntry, lastly, room, withdrawalEntered}
-use Rattle.rules.specs.Questions.{numberOf}
-use Rattle.requests.proofs.Opened.{carried, first-alone}
+use Rattle.requests.proofs.Opened.{carried}
 use Rattle.requests.specs.Logged.{AdmittedWith, GivesLogged, LoggedAfter, lentLog}
-use Rattle.requests.specs.Request.{call, postings, withdrawal, Act, Outcome, Request, Setting, actBy, actIn, actWith, asBytes, callAfter, emptiedIn, enteredIn, limitsOn, linesIn}
-use Rattle.requests.specs.Request.{loggedAfter, opening, openingLines, openingWith, openingWithIn, refusedGiven, requestAfter, requestIn, resultIn, stepIn, withdrawalAfter}
+use Rattle.requests.specs.Request.{call, postings, withdrawal, Act, Outcome, Request, Setting, actBy, actIn, actWith, asBytes, emptiedIn, enteredIn, limitsOn, linesIn}
+use Rattle.requests.specs.Request.{loggedAfter, opening, openingLines, openingWith, openingWithIn, outcome, refusedGiven, requestAfter, requestIn, withdrawalAfter}
+use Rattle.laws.proofs.Refusals.{first-alone}
 
 -- an act in a setting, with a log or none
 abbrev pub actLent : Setting → Option (List ℕ) → Act → Request
@@ -23,7 +23,7 @@ actLent g log a = record { setting = g; log = log; act = a }
 
 -- without a log nothing more is asked
 pub without-number : (n : ℕ) (g : Setting) (s : List ℕ) → openingWith n g none s ≡ opening n g s
-unfolding openingWithIn logNumber aboutLog refusal numberOf
+unfolding openingWithIn logNumber aboutLog refusal after
 without-number n g s = first-alone (opening n g s)
 
 -- ---- the log afterwards
@@ -37,13 +37,8 @@ lines-log g t (x ∷ xs) (y ∷ ys) (z ∷ zs) = refl
 
 -- there is none where none is given,
 pub without-log : (n : ℕ) (g : Setting) (s : List ℕ) (a : Act) → requestAfter n (actLent g none a) s .log ≡ none
-unfolding requestIn actBy actIn stepIn callAfter resultIn refusedGiven after decided
-without-log n g s (call c) = of-call (opening n g s) (refusal (about (limitsOn g (bookOf s)) (bookOf s) c)) (effect (limitsOn g (bookOf s)) (bookOf s) c)
-  where
-    of-call : (k : ℕ) (o : Option ℕ) (r : Result) → after k (refusedGiven none s) (decided o (refusedGiven none s) (resultIn asBytes r)) .log ≡ none
-    of-call zero none r = refl
-    of-call zero (some i) r = refl
-    of-call (suc k) o r = refl
+unfolding requestIn actBy actIn refusedGiven outcome after
+without-log n g s (call c) = refl
 without-log n g s (postings v) = go (opening (openingLines n v) g s)
   where
     go : (k : ℕ) → after k (refusedGiven none s) (linesIn asBytes g s (v .ids) (v .areas) (v .amounts)) .log ≡ none
@@ -53,13 +48,13 @@ without-log n g s withdrawal = refl
 
 -- and one where one is given
 pub with-log : (n : ℕ) (g : Setting) (l s : List ℕ) (a : Act) (m : List ℕ) → requestAfter n (actLent g (some l) a) s .log ≡ some (lentLog (requestAfter n (actLent g (some l) a) s .log) m)
-unfolding requestIn actBy actWith loggedAfter withdrawalAfter lentLog decided refusedGiven enteredIn emptiedIn after
+unfolding requestIn actBy actWith loggedAfter withdrawalAfter lentLog after refusedGiven enteredIn emptiedIn
 with-log n g l s a m = of-act a
   where
-    entered : (k : ℕ) (o : Option ℕ) (e : Entered) → let r = after k (refusedGiven (some l) s) (decided o (refusedGiven (some l) s) (enteredIn asBytes e)) in r .log ≡ some (lentLog (r .log) m)
-    entered zero none e = refl
-    entered zero (some i) e = refl
-    entered (suc k) o e = refl
+    entered : (k i : ℕ) (e : Entered) → let r = after k (refusedGiven (some l) s) (after i (refusedGiven (some l) s) (enteredIn asBytes e)) in r .log ≡ some (lentLog (r .log) m)
+    entered zero zero e = refl
+    entered zero (suc i) e = refl
+    entered (suc k) i e = refl
 
     listed : (k : ℕ) (o : Outcome (List ℕ)) → let r = after k (refusedGiven (some l) s) (emptiedIn asBytes o) in r .log ≡ some (lentLog (r .log) m)
     listed zero o = refl

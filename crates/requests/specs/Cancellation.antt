@@ -5,9 +5,8 @@ use Rattle.rules.specs.Areas.{tariff}
 use Rattle.rules.specs.Book.{Book, Trade, User, find}
 use Rattle.rules.specs.Calls.{about, reduction}
 use Rattle.rules.specs.Levels.{Limits}
-use Rattle.rules.specs.Questions.{Question, decided, refusal}
+use Rattle.rules.specs.Questions.{Question, after, refusal}
 use Rattle.rules.specs.Reduction.{eligible, target}
-use Rattle.book_format.specs.After.{after}
 use Rattle.book_format.specs.Book.{bookOf}
 use Rattle.book_format.specs.Questions.{bookNumber}
 use Rattle.cut_sets.specs.Sets.{markedWorth}
@@ -79,7 +78,7 @@ module _ (limits : Limits) (b : Book) where
 unfoldable pub cancellationAfter : ℕ → Limits → List ℕ → ℕ → ℕ → Cancellation
 cancellationAfter number limits s id tries =
     let b = bookOf s in
-    after number notCancelled (decided (refusal (aboutCancellation limits b id tries)) notCancelled (cancelled limits b (find (b .users) id) tries))
+    after number notCancelled (after (refusal (aboutCancellation limits b id tries)) notCancelled (cancelled limits b (find (b .users) id) tries))
 
 -- in a setting: after the questions of the book, and 26 where a party is asked, whose number is n, the other opening questions, then its own by the figures of the setting
 unfoldable pub cancellationIn : ℕ → Setting → List ℕ → ℕ → ℕ → Cancellation

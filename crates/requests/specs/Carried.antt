@@ -2,7 +2,7 @@
 use Rattle.base.specs.Basics.{_≡_, List, [], ℕ, take, drop}
 use Rattle.rules.specs.Calls.{Answer}
 use Rattle.rules.specs.Levels.{Limits}
-use Rattle.book_format.specs.After.{after}
+use Rattle.rules.specs.Questions.{after}
 use Rattle.book_format.specs.Book.{bookOf, userAt, userSize, versionOf}
 use Rattle.book_format.specs.Questions.{bookNumber}
 use Rattle.book_format.specs.Steps.{placeOf}

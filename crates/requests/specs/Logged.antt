@@ -3,14 +3,14 @@
 use Rattle.base.specs.Basics.{_≡_, Option, none, some, List, [], _++_, ℕ, ℤ, length}
 use Rattle.rules.specs.Calls.{Answer, Call, about, only}
 use Rattle.rules.specs.Levels.{Limits}
-use Rattle.rules.specs.Questions.{numberOf, refusal}
-use Rattle.book_format.specs.After.{after}
+use Rattle.rules.specs.Questions.{after, refusal}
 use Rattle.book_format.specs.Book.{bookOf}
 use Rattle.book_format.specs.Questions.{aboutBytes, bookNumber}
 use Rattle.log_format.specs.Fits.{aboutLog}
 use Rattle.log_format.specs.Log.{entriesOf}
 use Rattle.requests.specs.Carried.{CarriedAfter}
-use Rattle.requests.specs.Request.{call, postings, Act, Lines, Outcome, Request, Setting, aboutLines, aboutSetting, actIn, actOf, asBytes, callIn, limitsOn, linesOf, loggedAfter, openingLines, openingWith, refusedGiven, request, requestAfter, withdrawalAfter}
+use Rattle.requests.specs.Request.{call, postings, Act, Lines, Outcome, Request, Setting, aboutLines, aboutSetting, actIn, actOf, asBytes, callIn, limitsOn, linesOf, loggedAfter, openingLines, openingWith, refusedGiven, request, requestAfter}
+use Rattle.requests.specs.Request.{withdrawalAfter}
 
 -- the opening questions with that of a log, asked after those of the book, and 26, whose number is n: their number, and the figures of the call where it is 0
 pub record AdmittedWith (n : ℕ) (g : Setting) (log : Option (List ℕ)) (s : List ℕ) (number : ℕ) (limits : Limits) : Type 0 where
@@ -57,12 +57,13 @@ Posted store log ids areas amounts places s number t left l m = PostedAfter (boo
 -- "Asked in this order; the first 'no' gives the number"
 pub record AskedInOrder : Type 0 where
   -- 1 to 7, then 16 and 17, then 19
-  pub opening-of-calls : (g : Setting) (log : Option (List ℕ)) (s : List ℕ) → openingWith (bookNumber s) g log s ≡ numberOf (refusal ((aboutBytes s ++ aboutSetting g (bookOf s)) ++ aboutLog log s))
+  pub opening-of-calls : (g : Setting) (log : Option (List ℕ)) (s : List ℕ) → openingWith (bookNumber s) g log s ≡ refusal ((aboutBytes s ++ aboutSetting g (bookOf s)) ++ aboutLog log s)
   -- of a list 15 "after question 7", and 16 and 17 after it
   pub opening-of-lists : (g : Setting) (log : Option (List ℕ)) (v : Lines) (s : List ℕ)
-      → openingWith (openingLines (bookNumber s) v) g log s ≡ numberOf (refusal (((aboutBytes s ++ aboutLines v) ++ aboutSetting g (bookOf s)) ++ aboutLog log s))
+      → openingWith (openingLines (bookNumber s) v) g log s ≡ refusal (((aboutBytes s ++ aboutLines v) ++ aboutSetting g (bookOf s)) ++ aboutLog log s)
   -- 20 is asked last: a call that its own question refuses has that number,
-  pub own-first : (limits : Limits) (l s : List ℕ) (c : Call) (n : ℕ) → refusal (about limits (bookOf s) c) ≡ some n → loggedAfter asBytes 0 limits l s c ≡ refusedGiven (some l) s n
+  pub own-first : (limits : Limits) (l s : List ℕ) (c : Call) → (refusal (about limits (bookOf s) c) ≡ 0 → ⊥)
+      → loggedAfter asBytes 0 limits l s c ≡ refusedGiven (some l) s (refusal (about limits (bookOf s) c))
   -- and 18: a log without an entry has none to withdraw
   pub no-entry : (l s : List ℕ) → entriesOf s l ≡ [] → withdrawalAfter asBytes 0 l s ≡ refusedGiven (some l) s 18
 

@@ -2,13 +2,13 @@
 -- book in any form: the book itself, or its bytes. Assumes nothing.
 use Rattle.base.specs.Basics.{Bool, _&&_, Option, none, some, List, [], _∷_, _++_, ℕ, eqb, leb, ℤ, length}
 use Rattle.rules.specs.Book.{Book}
-use Rattle.rules.specs.Calls.{Answer, Call, Result, about, effect, only, posting}
+use Rattle.rules.specs.Calls.{Answer, Call, Form, Result, about, callAfter, itself, only, posting}
 use Rattle.rules.specs.Levels.{Limits}
-use Rattle.rules.specs.Queries.{Query, Reply}
-use Rattle.rules.specs.Questions.{Question, aboutBook, decided, numberOf, refusal}
-use Rattle.book_format.specs.After.{after, replyAfter}
+use Rattle.rules.specs.Queries.{Query, Reply, replyAfter}
+use Rattle.rules.specs.Questions.{Question, aboutBook, after, firstOf, refusal}
 use Rattle.book_format.specs.Book.{bookOf, bytesOf}
 use Rattle.book_format.specs.Questions.{bookNumber}
+use Rattle.book_format.specs.Steps.{inBytes}
 use Rattle.store.specs.Store.{aboutStore, limitsOf, storeNumber}
 use Rattle.log_format.specs.Log.{entriesOf, logBytes}
 use Rattle.log_format.specs.Fits.{logNumber}
@@ -85,40 +85,34 @@ aboutLines v = record { number = 15; holds = linesFit v } ∷ []
 
 -- ---- the form of a book
 
--- The form in which a book is given and left: what book it is, how a book is put into the form, the number of the questions about the book, and its bytes, which a log is
--- compared with.
-pub record Form (B : Type 0) : Type 0 where
-  pub book : B → Book
-  pub put : Book → B
+-- What a request is made on: a book in its form, with the number of the questions about the book, and its bytes, which a log is compared with.
+pub record Carrier (B : Type 0) : Type 0 where
+  pub form : Form B
   pub number : B → ℕ
   pub bytes : B → List ℕ
 
 -- a book itself, as the rules have it
-abbrev pub asBook : Form Book
-asBook = record { book = λ b. b; put = λ b. b; number = λ b. numberOf (refusal (aboutBook b)); bytes = bytesOf }
+abbrev pub asBook : Carrier Book
+asBook = record { form = itself; number = λ b. refusal (aboutBook b); bytes = bytesOf }
 
 -- a book in bytes
-abbrev pub asBytes : Form (List ℕ)
-asBytes = record { book = bookOf; put = bytesOf; number = bookNumber; bytes = λ s. s }
+abbrev pub asBytes : Carrier (List ℕ)
+asBytes = record { form = inBytes; number = bookNumber; bytes = λ s. s }
 
 -- ---- the opening questions
 
--- The number of questions that are asked one after the other, by that of the first and that of the second: "the first "no" gives the number", 0 where there is none.
-abbrev pub firstOf : ℕ → ℕ → ℕ
-firstOf n m = after n (λ k. k) m
-
 -- After the questions of the book, and 26 where a party is asked, whose number is n. Of a list 15, "asked after question 7",
 unfoldable pub openingLines : ℕ → Lines → ℕ
-openingLines n v = firstOf n (numberOf (refusal (aboutLines v)))
+openingLines n v = firstOf n (refusal (aboutLines v))
 
-module _ {B : Type 0} (form : Form B) where
+module _ {B : Type 0} (carrier : Carrier B) where
   -- then 16 and 17, "both asked after question 7 and 15",
   unfoldable pub openingIn : ℕ → Setting → B → ℕ
-  openingIn n g x = firstOf n (storeNumber (g .store) (form .book x .header .date))
+  openingIn n g x = firstOf n (storeNumber (g .store) (carrier .form .book x .header .date))
 
   -- then 19: it "is asked after question 7 and 15 to 17"
   unfoldable pub openingWithIn : ℕ → Setting → Option (List ℕ) → B → ℕ
-  openingWithIn n g log x = firstOf (openingIn n g x) (logNumber log (form .bytes x))
+  openingWithIn n g log x = firstOf (openingIn n g x) (logNumber log (carrier .bytes x))
 
 -- of a book in bytes
 abbrev pub opening : ℕ → Setting → List ℕ → ℕ
@@ -140,21 +134,16 @@ pub record Outcome (B : Type 0) : Type 0 where
 unfoldable pub refusedGiven : {B : Type 0} → Option (List ℕ) → B → ℕ → Outcome B
 refusedGiven log x n = record { answer = only n; numbers = []; book = x; log = log }
 
-module _ {B : Type 0} (form : Form B) where
+-- a call without a log has no lines either
+unfoldable pub outcome : {B : Type 0} → Result B → Outcome B
+outcome r = record { answer = r .answer; numbers = []; book = r .book; log = none }
+
+module _ {B : Type 0} (carrier : Carrier B) where
   -- ---- without a log
 
-  -- what the rules give for a call, which has no lines
-  unfoldable pub resultIn : Result → Outcome B
-  resultIn r = record { answer = r .answer; numbers = []; book = form .put (r .book); log = none }
-
-  -- a call, after its opening questions by their number
-  unfoldable pub callAfter : ℕ → Limits → B → Call → Outcome B
-  callAfter number limits x c =
-      after number (refusedGiven none x) (decided (refusal (about limits (form .book x) c)) (refusedGiven none x) (resultIn (effect limits (form .book x) c)))
-
   -- a call in its setting
-  unfoldable pub stepIn : ℕ → Setting → B → Call → Outcome B
-  stepIn n g x c = callAfter (openingIn form n g x) (limitsOn g (form .book x)) x c
+  unfoldable pub stepIn : ℕ → Setting → B → Call → Result B
+  stepIn n g x c = callAfter (carrier .form) (openingIn carrier n g x) (limitsOn g (carrier .form .book x)) x c
 
   -- "Book and answers equal those of the postings made one after another", each a call of its own on the book that the last one left
   unfoldable pub linesIn : Setting → B → List ℕ → List ℕ → List ℤ → Outcome B
@@ -162,45 +151,45 @@ module _ {B : Type 0} (form : Form B) where
   linesIn g x (id ∷ ids) [] amounts = record { answer = only 0; numbers = []; book = x; log = none }
   linesIn g x (id ∷ ids) (area ∷ areas) [] = record { answer = only 0; numbers = []; book = x; log = none }
   linesIn g x (id ∷ ids) (area ∷ areas) (z ∷ amounts) =
-      let first = stepIn (form .number x) g x (posting id area z) in
+      let first = stepIn (carrier .number x) g x (posting id area z) in
       let rest = linesIn g (first .book) ids areas amounts in
       record { answer = only 0; numbers = first .answer .number ∷ rest .numbers; book = rest .book; log = none }
 
   -- "A book that fails a question stops the call with that number before the first line." Without a log there is no entry to withdraw.
   unfoldable pub actIn : ℕ → Setting → B → Act → Outcome B
-  actIn n g x (call c) = stepIn n g x c
-  actIn n g x (postings v) = after (openingIn form (openingLines n v) g x) (refusedGiven none x) (linesIn g x (v .ids) (v .areas) (v .amounts))
-  actIn n g x withdrawal = refusedGiven none x (firstOf (openingIn form n g x) 18)
+  actIn n g x (call c) = outcome (stepIn n g x c)
+  actIn n g x (postings v) = after (openingIn carrier (openingLines n v) g x) (refusedGiven none x) (linesIn g x (v .ids) (v .areas) (v .amounts))
+  actIn n g x withdrawal = refusedGiven none x (firstOf (openingIn carrier n g x) 18)
 
   -- ---- with a log
 
   -- what the rules give: the log afterwards holds "the book as the last call given the log left it"
   unfoldable pub enteredIn : Entered → Outcome B
-  enteredIn e = record { answer = e .answer; numbers = []; book = form .put (e .book); log = some (logBytes (e .entries) (bytesOf (e .book))) }
+  enteredIn e = record { answer = e .answer; numbers = []; book = carrier .form .put (e .book); log = some (logBytes (e .entries) (bytesOf (e .book))) }
 
   -- an accepted list "empties it"
   unfoldable pub emptiedIn : Outcome B → Outcome B
-  emptiedIn o = record { answer = o .answer; numbers = o .numbers; book = o .book; log = some (logBytes [] (form .bytes (o .book))) }
+  emptiedIn o = record { answer = o .answer; numbers = o .numbers; book = o .book; log = some (logBytes [] (carrier .bytes (o .book))) }
 
   -- a call with a log, after its opening questions by their number: 20 is asked last
   unfoldable pub loggedAfter : ℕ → Limits → List ℕ → B → Call → Outcome B
   loggedAfter number limits l x c =
       after number (refusedGiven (some l) x)
-      (decided (refusal (about limits (form .book x) c ++ lastly (room l) c)) (refusedGiven (some l) x)
-      (enteredIn (callEntered limits (room l) (entriesOf (form .bytes x) l) (form .book x) c)))
+      (after (refusal (about limits (carrier .form .book x) c ++ lastly (room l) c)) (refusedGiven (some l) x)
+      (enteredIn (callEntered limits (room l) (entriesOf (carrier .bytes x) l) (carrier .form .book x) c)))
 
   -- a withdrawal: 18 is asked last
   unfoldable pub withdrawalAfter : ℕ → List ℕ → B → Outcome B
   withdrawalAfter number l x =
-      let entries = entriesOf (form .bytes x) l in
+      let entries = entriesOf (carrier .bytes x) l in
       after number (refusedGiven (some l) x)
-      (decided (refusal (hasEntry entries ∷ [])) (refusedGiven (some l) x) (enteredIn (withdrawalEntered entries (form .book x))))
+      (after (refusal (hasEntry entries ∷ [])) (refusedGiven (some l) x) (enteredIn (withdrawalEntered entries (carrier .form .book x))))
 
   unfoldable pub actWith : ℕ → Setting → List ℕ → B → Act → Outcome B
-  actWith n g l x (call c) = loggedAfter (openingWithIn form n g (some l) x) (limitsOn g (form .book x)) l x c
+  actWith n g l x (call c) = loggedAfter (openingWithIn carrier n g (some l) x) (limitsOn g (carrier .form .book x)) l x c
   actWith n g l x (postings v) =
-      after (openingWithIn form (openingLines n v) g (some l) x) (refusedGiven (some l) x) (emptiedIn (linesIn g x (v .ids) (v .areas) (v .amounts)))
-  actWith n g l x withdrawal = withdrawalAfter (openingWithIn form n g (some l) x) l x
+      after (openingWithIn carrier (openingLines n v) g (some l) x) (refusedGiven (some l) x) (emptiedIn (linesIn g x (v .ids) (v .areas) (v .amounts)))
+  actWith n g l x withdrawal = withdrawalAfter (openingWithIn carrier n g (some l) x) l x
 
   -- ---- requests
 
@@ -228,7 +217,7 @@ request r s = requestAfter (bookNumber s) r s
 
 -- a query in a setting, after the same questions
 unfoldable pub enquiryAfter : ℕ → Setting → List ℕ → Query → Reply
-enquiryAfter n g s q = replyAfter (opening n g s) (limitsOn g (bookOf s)) s q
+enquiryAfter n g s q = replyAfter (opening n g s) (limitsOn g (bookOf s)) (bookOf s) q
 
 abbrev pub enquiry : Setting → List ℕ → Query → Reply
 enquiry g s q = enquiryAfter (bookNumber s) g s q

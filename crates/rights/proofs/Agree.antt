@@ -5,10 +5,9 @@ use Rattle.base.proofs.Tests.{and-l, and-r}
 use Rattle.rules.specs.Book.{Header, Trade, User, find}
 use Rattle.rules.specs.Calls.{idKnown, isShipper}
 use Rattle.rules.specs.Levels.{Limits, afternoonLevel, flagged, morningLevel, shipper}
-use Rattle.rules.specs.Queries.{Query, Reply, aLevel, aRecord, aboutQuery, afternoonLevelOf, found, morningLevelOf, onlyNumber, shownRecord, warning}
-use Rattle.rules.specs.Questions.{Question, decided, idsRise, known, refusal}
+use Rattle.rules.specs.Queries.{Query, Reply, aLevel, aRecord, aboutQuery, afternoonLevelOf, found, morningLevelOf, onlyNumber, replyAfter, shownRecord, warning}
+use Rattle.rules.specs.Questions.{Question, after, idsRise, known, refusal}
 use Rattle.book_format.proofs.Passed.{passed}
-use Rattle.book_format.specs.After.{after, replyAfter}
 use Rattle.book_format.specs.Book.{bookOf, userAt, userSize, versionOf}
 use Rattle.book_format.specs.Questions.{bookNumber}
 use Rattle.book_format.specs.Steps.{placeOf}
@@ -113,48 +112,48 @@ module _ (party : ℕ) (s t : List ℕ) (passes : bookNumber s ≡ 0) (passed-to
 
   module _ (g : Setting) where
     answered : List ℕ → Query → Reply
-    answered u q = decided (refusal (aboutQuery (bookOf u) q)) onlyNumber (found (limitsOn g (bookOf u)) (bookOf u) q)
+    answered u q = after (refusal (aboutQuery (bookOf u) q)) onlyNumber (found (limitsOn g (bookOf u)) (bookOf u) q)
 
     module _ (k : T (known (bookOf s .users) party)) where
       morning-answered : answered s (morningLevelOf party) ≡ answered t (morningLevelOf party)
       unfolding answered aboutQuery aboutUser found
       morning-answered =
-          ap₂ (λ (qs : List Question) (n : ℕ). decided (refusal qs) onlyNumber (aLevel n)) user-asked
+          ap₂ (λ (qs : List Question) (n : ℕ). after (refusal qs) onlyNumber (aLevel n)) user-asked
           (same-morning party (bookOf s) (bookOf t) (ids-rise s passes) (ids-rise t passed-too) same-view k (limitsOn g (bookOf s))
           ∙ ap (λ (l : Limits). morningLevel l (bookOf t) (find (bookOf t .users) party)) (limits-same g))
 
       afternoon-answered : answered s (afternoonLevelOf party) ≡ answered t (afternoonLevelOf party)
       unfolding answered aboutQuery aboutUser found
       afternoon-answered =
-          ap₂ (λ (qs : List Question) (n : ℕ). decided (refusal qs) onlyNumber (aLevel n)) user-asked
+          ap₂ (λ (qs : List Question) (n : ℕ). after (refusal qs) onlyNumber (aLevel n)) user-asked
           (same-afternoon party (bookOf s) (bookOf t) (ids-rise s passes) (ids-rise t passed-too) same-view k (limitsOn g (bookOf s))
           ∙ ap (λ (l : Limits). afternoonLevel l (bookOf t) (find (bookOf t .users) party)) (limits-same g))
 
       record-answered : answered s (shownRecord party) ≡ answered t (shownRecord party)
       unfolding answered aboutQuery idKnown found
       record-answered =
-          ap₂ (λ (x : Bool) (u : User). decided (refusal (record { number = 8; holds = x } ∷ [])) onlyNumber (aRecord u)) known-same user-same
+          ap₂ (λ (x : Bool) (u : User). after (refusal (record { number = 8; holds = x } ∷ [])) onlyNumber (aRecord u)) known-same user-same
 
-      flag-told : decided (refusal (aboutUser (bookOf s) party)) toldNumber (tells (limitsOn g (bookOf s)) s (flagOf party))
-          ≡ decided (refusal (aboutUser (bookOf t) party)) toldNumber (tells (limitsOn g (bookOf t)) t (flagOf party))
+      flag-told : after (refusal (aboutUser (bookOf s) party)) toldNumber (tells (limitsOn g (bookOf s)) s (flagOf party))
+          ≡ after (refusal (aboutUser (bookOf t) party)) toldNumber (tells (limitsOn g (bookOf t)) t (flagOf party))
       unfolding tells
       flag-told =
-          ap₂ (λ (qs : List Question) (x : Bool). decided (refusal qs) toldNumber (record { number = 0; flagged = x; count = 0; part = [] })) user-asked
+          ap₂ (λ (qs : List Question) (x : Bool). after (refusal qs) toldNumber (record { number = 0; flagged = x; count = 0; part = [] })) user-asked
           (same-flag party (bookOf s) (bookOf t) (ids-rise s passes) (ids-rise t passed-too) same-view k (limitsOn g (bookOf s))
           ∙ ap (λ (l : Limits). flagged l (bookOf t) (find (bookOf t .users) party)) (limits-same g))
 
-      count-told : decided (refusal (aboutUser (bookOf s) party)) toldNumber (tells (limitsOn g (bookOf s)) s (countOf party))
-          ≡ decided (refusal (aboutUser (bookOf t) party)) toldNumber (tells (limitsOn g (bookOf t)) t (countOf party))
+      count-told : after (refusal (aboutUser (bookOf s) party)) toldNumber (tells (limitsOn g (bookOf s)) s (countOf party))
+          ≡ after (refusal (aboutUser (bookOf t) party)) toldNumber (tells (limitsOn g (bookOf t)) t (countOf party))
       unfolding tells
       count-told =
-          ap₂ (λ (qs : List Question) (ts : List Trade). decided (refusal qs) toldNumber (record { number = 0; flagged = false; count = length ts; part = [] })) user-asked
+          ap₂ (λ (qs : List Question) (ts : List Trade). after (refusal qs) toldNumber (record { number = 0; flagged = false; count = length ts; part = [] })) user-asked
           (same-trades party (bookOf s) (bookOf t) (ids-rise s passes) (ids-rise t passed-too) same-view)
 
-      trade-told : (ordinal : ℕ) → decided (refusal (aboutUser (bookOf s) party)) toldNumber (tells (limitsOn g (bookOf s)) s (tradeOf party ordinal))
-          ≡ decided (refusal (aboutUser (bookOf t) party)) toldNumber (tells (limitsOn g (bookOf t)) t (tradeOf party ordinal))
+      trade-told : (ordinal : ℕ) → after (refusal (aboutUser (bookOf s) party)) toldNumber (tells (limitsOn g (bookOf s)) s (tradeOf party ordinal))
+          ≡ after (refusal (aboutUser (bookOf t) party)) toldNumber (tells (limitsOn g (bookOf t)) t (tradeOf party ordinal))
       unfolding tells
       trade-told ordinal =
-          ap₂ (λ (qs : List Question) (cs : List (List ℕ)). decided (refusal qs) toldNumber (record { number = 0; flagged = false; count = 0; part = getD cs ordinal [] })) user-asked (agree .trades)
+          ap₂ (λ (qs : List Question) (cs : List (List ℕ)). after (refusal qs) toldNumber (record { number = 0; flagged = false; count = 0; part = getD cs ordinal [] })) user-asked (agree .trades)
 
     by-query : (q : Query) → after (openingNumberBy (shipperOf party) (matterOf q) g s) onlyNumber (answered s q) ≡ after (openingNumberBy (shipperOf party) (matterOf q) g t) onlyNumber (answered t q)
     unfolding matterOf mayDo
@@ -170,7 +169,7 @@ module _ (party : ℕ) (s t : List ℕ) (passes : bookNumber s ≡ 0) (passed-to
     -- ---- flag and trades
 
     asked : List ℕ → Asking → Told
-    asked u a = decided (refusal (aboutUser (bookOf u) (idOf a))) toldNumber (tells (limitsOn g (bookOf u)) u a)
+    asked u a = after (refusal (aboutUser (bookOf u) (idOf a))) toldNumber (tells (limitsOn g (bookOf u)) u a)
 
     by-asking : (a : Asking) → after (openingNumberBy (shipperOf party) (own (idOf a)) g s) toldNumber (asked s a) ≡ after (openingNumberBy (shipperOf party) (own (idOf a)) g t) toldNumber (asked t a)
     unfolding idOf asked

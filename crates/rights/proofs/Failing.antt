@@ -3,7 +3,6 @@ use Rattle.base.specs.Basics.{_≡_, _∙_, ap, List, ℕ, suc}
 use Rattle.book_format.specs.Book.{bookOf}
 use Rattle.book_format.specs.Questions.{bookNumber}
 use Rattle.outputs.specs.Output.{refused, written, writtenAfter}
-use Rattle.requests.proofs.Opened.{after-refused}
 use Rattle.requests.specs.Cancellation.{cancellationIn}
 use Rattle.rights.proofs.Entered.{cancellation-stopped, told-stopped}
 use Rattle.rights.proofs.Logged.{stopped-request}
@@ -13,6 +12,7 @@ use Rattle.rights.specs.Claim.{BookFirst}
 use Rattle.rights.specs.Outputs.{writtenBy}
 use Rattle.rights.specs.Party.{Matter, Party, matterOf, operators, own, rightNumber}
 use Rattle.rights.specs.Trades.{idOf, toldIn}
+use Rattle.laws.proofs.Refusals.{after-refused}
 
 failing : (actor : Party) (m : Matter) (s : List ℕ) (n : ℕ) → bookNumber s ≡ suc n → enteringNumber actor m s ≡ suc n
 unfolding enteringNumber

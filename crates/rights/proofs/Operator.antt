@@ -3,17 +3,13 @@
 use Rattle.base.specs.Basics.{_≡_, _∙_, ap, refl, sym, List, _++_, ℕ, suc, zero, arith}
 use Rattle.rules.specs.Calls.{only}
 use Rattle.rules.specs.Queries.{Query}
-use Rattle.rules.specs.Questions.{Question}
-use Rattle.book_format.proofs.After.{asked-after}
+use Rattle.rules.specs.Questions.{Question, after}
 use Rattle.book_columns.specs.Calls.{aboutRoom, stored, storedAfter}
 use Rattle.book_columns.specs.Form.{formOf}
-use Rattle.book_format.proofs.Formed.{bytes-numbered}
-use Rattle.book_format.specs.After.{after}
 use Rattle.book_format.specs.Questions.{aboutBytes, bookNumber}
 use Rattle.book_tables.specs.Book.{blankBook}
 use Rattle.book_tables.specs.declared.Book.{Book}
 use Rattle.outputs.specs.Output.{Output, Wrote, accepted, refused, written, writtenAfter}
-use Rattle.requests.proofs.Opened.{after-passed, after-refused, first-alone}
 use Rattle.requests.specs.Cancellation.{Cancellation, cancellation, cancellationIn, notCancelled}
 use Rattle.requests.specs.Request.{Outcome, Request, Setting, enquiry, enquiryAfter, refusedGiven, request, requestAfter}
 use Rattle.rights.proofs.Entered.{cancellation-stopped, request-stopped}
@@ -22,6 +18,7 @@ use Rattle.rights.specs.Outputs.{storedBy, writtenBy}
 use Rattle.rights.specs.Party.{Matter, Party, matterOf, mayDo, operator, operators, rightNumber, shipperOf}
 use Rattle.rights.specs.Claim.{AcceptedClaim, ForbiddenClaim, OperatorClaim}
 use Rattle.rights.specs.Read.{ReadBy}
+use Rattle.laws.proofs.Refusals.{after-append, after-passed, after-refused, first-alone}
 
 -- what a call that writes to an output promises, from the number of its questions up to 26 and the contract of the inner function
 pub wrote-by : (actor : Party) (s : List ℕ) (qs : List Question) (xs out : List ℕ) {number result : ℕ} {left : List ℕ} → number ≡ enteringNumber actor operators s
@@ -54,7 +51,7 @@ operator-enquiry g s q = ap (λ (n : ℕ). enquiryAfter n g s q) (operator-asked
 operator-output : (s : List ℕ) (qs : List Question) (xs out : List ℕ) → writtenBy operator s qs xs out ≡ written (aboutBytes s ++ qs) xs out
 unfolding writtenBy writtenAfter written bookNumber
 operator-output s qs xs out =
-    ap (λ (n : ℕ). writtenAfter n qs xs out) (operator-asked operators s) ∙ sym (asked-after (refused out) (accepted xs out) (aboutBytes s) qs (bytes-numbered s))
+    ap (λ (n : ℕ). writtenAfter n qs xs out) (operator-asked operators s) ∙ sym (after-append (aboutBytes s) qs (refused out) (accepted xs out))
 
 operator-form : (s out : List ℕ) → storedBy operator s out ≡ stored s out
 unfolding storedBy stored

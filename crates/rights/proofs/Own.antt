@@ -1,7 +1,7 @@
 -- What is its own a shipper is told as the operator is; what is not is refused with 26. Assumes nothing.
 use Rattle.base.specs.Basics.{_≡_, _∙_, ap, refl, sym, inl, inr, Bool, true, false, cond, _&&_, List, ℕ, eqb, eq-eqb, ne-eqb}
 use Rattle.rules.specs.Queries.{Query, onlyNumber, afternoonLevelOf, morningLevelOf, shownRecord, warning}
-use Rattle.book_format.specs.After.{after}
+use Rattle.rules.specs.Questions.{after}
 use Rattle.book_format.specs.Book.{bookOf}
 use Rattle.book_format.specs.Questions.{bookNumber}
 use Rattle.requests.specs.Request.{Setting, enquiry, enquiryAfter}

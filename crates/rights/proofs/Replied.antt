@@ -1,8 +1,8 @@
 -- What a party's query, its flag and its trades give, from what asked their opening questions and the contract of the inner function. Assumes nothing.
 use Rattle.base.specs.Basics.{_≡_, _∙_, ap, refl, List, ℕ, suc, zero}
 use Rattle.rules.specs.Levels.{Limits}
-use Rattle.rules.specs.Queries.{Query, onlyNumber}
-use Rattle.book_format.specs.After.{after, replyAfter}
+use Rattle.rules.specs.Queries.{Query, onlyNumber, replyAfter}
+use Rattle.rules.specs.Questions.{after}
 use Rattle.book_format.specs.Book.{bookOf}
 use Rattle.requests.specs.Carried.{Admitted}
 use Rattle.requests.specs.Request.{Setting, enquiryAfter, limitsOn}
@@ -13,14 +13,14 @@ use Rattle.rights.specs.Trades.{Asking, toldAfter, toldIn}
 
 -- ---- a query
 
-reply-same : (n : ℕ) {l m : Limits} (s : List ℕ) (q : Query) → (n ≡ 0 → l ≡ m) → replyAfter n l s q ≡ replyAfter n m s q
+reply-same : (n : ℕ) {l m : Limits} (s : List ℕ) (q : Query) → (n ≡ 0 → l ≡ m) → replyAfter n l (bookOf s) q ≡ replyAfter n m (bookOf s) q
 unfolding replyAfter after
-reply-same zero s q h = ap (λ (k : Limits). replyAfter 0 k s q) (h refl)
+reply-same zero s q h = ap (λ (k : Limits). replyAfter 0 k (bookOf s) q) (h refl)
 reply-same (suc n) s q h = refl
 
-pub replied-by : (q : Query) {n : ℕ} {g : Setting} {s : List ℕ} {number : ℕ} {limits : Limits} → Admitted n g s number limits → replyAfter number limits s q ≡ enquiryAfter n g s q
+pub replied-by : (q : Query) {n : ℕ} {g : Setting} {s : List ℕ} {number : ℕ} {limits : Limits} → Admitted n g s number limits → replyAfter number limits (bookOf s) q ≡ enquiryAfter n g s q
 unfolding enquiryAfter
-replied-by q {g = g} {s} {number} d = reply-same number s q (d .taken) ∙ ap (λ (k : ℕ). replyAfter k (limitsOn g (bookOf s)) s q) (d .asked)
+replied-by q {g = g} {s} {number} d = reply-same number s q (d .taken) ∙ ap (λ (k : ℕ). replyAfter k (limitsOn g (bookOf s)) (bookOf s) q) (d .asked)
 
 -- a refusal by the questions up to 26: the number alone
 pub stopped-enquiry : (actor : Party) (g : Setting) (s : List ℕ) (q : Query) (n : ℕ) → enteringNumber actor (matterOf q) s ≡ suc n → enquiryBy actor g s q ≡ onlyNumber (suc n)

@@ -2,11 +2,12 @@
 use Rattle.base.specs.Basics.{_≡_, List, ℕ, _+_}
 use Rattle.rules.specs.Calls.{Answer}
 use Rattle.rules.specs.Queries.{Query, Reply, shownRecord}
+use Rattle.rules.specs.Questions.{firstOf}
 use Rattle.book_format.specs.Book.{bookOf}
 use Rattle.book_format.specs.Questions.{bookNumber}
 use Rattle.requests.specs.Cancellation.{Cancellation, cancellationIn}
 use Rattle.requests.specs.Carried.{partAt, partShown}
-use Rattle.requests.specs.Request.{Outcome, Request, Setting, enquiryAfter, firstOf, opening, requestAfter}
+use Rattle.requests.specs.Request.{Outcome, Request, Setting, enquiryAfter, opening, requestAfter}
 use Rattle.rights.specs.Party.{Matter, Party, matterOf, operators, rightNumber}
 
 -- ---- the questions

@@ -1,7 +1,7 @@
 -- Document 02, ask 9: the contracts of the public calls that a log is lent to, given or not, by an acting party. Every call that is given a log is the operator's. Assumes nothing.
 use Rattle.base.specs.Basics.{_≡_, Option, List, ℕ, ℤ, length}
 use Rattle.rules.specs.Calls.{Answer, only}
-use Rattle.book_format.specs.After.{after}
+use Rattle.rules.specs.Questions.{after}
 use Rattle.requests.specs.Logged.{lentLog, listWith}
 use Rattle.requests.specs.Request.{Request}
 use Rattle.rights.specs.Acting.{CarriedBy, requestBy}

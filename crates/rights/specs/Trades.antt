@@ -4,8 +4,7 @@ use Rattle.base.specs.Basics.{_≡_, Bool, cond, false, List, [], _∷_, ℕ, _
 use Rattle.rules.specs.Book.{Book, find}
 use Rattle.rules.specs.Calls.{idKnown, isShipper}
 use Rattle.rules.specs.Levels.{Limits, flagged}
-use Rattle.rules.specs.Questions.{Question, decided, refusal}
-use Rattle.book_format.specs.After.{after}
+use Rattle.rules.specs.Questions.{Question, after, refusal}
 use Rattle.book_format.specs.Book.{bookOf, tradeCount, tradeSize, tradesAt, tradesOf, usersOf, versionOf}
 use Rattle.requests.specs.Request.{Setting, limitsOn, opening}
 use Rattle.views.specs.Kept.{placeKept}
@@ -47,7 +46,7 @@ tells limits s (tradeOf id ordinal) = record { number = 0; flagged = false; coun
 
 -- after the opening questions, by their number
 unfoldable pub toldAfter : ℕ → Limits → List ℕ → Asking → Told
-toldAfter number limits s a = after number toldNumber (decided (refusal (aboutUser (bookOf s) (idOf a))) toldNumber (tells limits s a))
+toldAfter number limits s a = after number toldNumber (after (refusal (aboutUser (bookOf s) (idOf a))) toldNumber (tells limits s a))
 
 -- after the questions of the book and 26, whose number is n
 unfoldable pub toldIn : ℕ → Setting → List ℕ → Asking → Told

@@ -5,7 +5,7 @@ use Rattle.base.proofs.Fronts.{all-at, getD-inside}
 use Rattle.base.proofs.Tests.{eqb-of, same-test}
 use Rattle.base.specs.Lists.{all}
 use Rattle.book_parties.proofs.Known.{among-known, placeIn-among}
-use Rattle.book_parties.proofs.Rising.{placeIn-at, placeIn-holds, rising-ids}
+use Rattle.book_parties.proofs.Rising.{length-ids, placeIn-at, placeIn-holds, rising-ids}
 use Rattle.book_parties.specs.Ids.{PlacedOn, idAt, idsOf, placeIn}
 use Rattle.rules.specs.Book.{Terms, Trade, User, noTrade, nobody}
 use Rattle.rules.specs.Questions.{idsRise, known}
@@ -24,18 +24,14 @@ pub ids-at : (us : List User) (p : ℕ) → getD (idsOf us) p 0 ≡ idAt us p
 unfolding idsOf nobody
 ids-at us p = List·getD-map (λ (u : User). u .party .id) us p nobody
 
-pub ids-count : (us : List User) → length (idsOf us) ≡ length us
-unfolding idsOf
-ids-count us = length-map us (λ u. u .party .id)
-
 -- a known id has a place, and stands there
 pub known-place : (us : List User) (id : ℕ) → T (known us id) → placeIn (idsOf us) id < length us
 known-place us id k =
     let is : ltb (placeIn (idsOf us) id) (length (idsOf us)) ≡ known us id = placeIn-among (idsOf us) id ∙ among-known us id in
-    omega (arith, ids-count us, ltb→lt (placeIn (idsOf us) id) (length (idsOf us)) (rw is k))
+    omega (arith, length-ids us, ltb→lt (placeIn (idsOf us) id) (length (idsOf us)) (rw is k))
 
 pub known-at : (us : List User) (id : ℕ) → T (known us id) → idAt us (placeIn (idsOf us) id) ≡ id
-known-at us id k = sym (ids-at us (placeIn (idsOf us) id)) ∙ placeIn-holds (idsOf us) id (omega (arith, ids-count us, known-place us id k))
+known-at us id k = sym (ids-at us (placeIn (idsOf us) id)) ∙ placeIn-holds (idsOf us) id (omega (arith, length-ids us, known-place us id k))
 
 -- an id has a place where the id at that place is it
 pub place-is : (us : List User) → T (idsRise 0 us) → (p id : ℕ) → p < length us → eqb (placeIn (idsOf us) id) p ≡ eqb id (idAt us p)
@@ -44,12 +40,12 @@ place-is us rise p id h =
     (λ t.
     let e : placeIn (idsOf us) id ≡ p = eqb→eq (placeIn (idsOf us) id) p t in
     eqb-of id (idAt us p)
-    (sym (placeIn-holds (idsOf us) id (omega (arith, ids-count us))) ∙ ap (λ (k : ℕ). getD (idsOf us) k 0) e ∙ ids-at us p))
+    (sym (placeIn-holds (idsOf us) id (omega (arith, length-ids us))) ∙ ap (λ (k : ℕ). getD (idsOf us) k 0) e ∙ ids-at us p))
     (λ t.
     let e : id ≡ idAt us p = eqb→eq id (idAt us p) t in
     eqb-of (placeIn (idsOf us) id) p
-    (placeIn-at (idsOf us) id p (omega (arith, ids-count us)) (ids-at us p ∙ sym e)
-    (λ j k f. omega (arith, e, f, ids-at us p, rising-ids us rise .rise j p k (omega (arith, ids-count us))))))
+    (placeIn-at (idsOf us) id p (omega (arith, length-ids us)) (ids-at us p ∙ sym e)
+    (λ j k f. omega (arith, e, f, ids-at us p, rising-ids us rise .rise j p k (omega (arith, length-ids us))))))
 
 -- a party of a trade, on a side where all are users
 module _ (side : Terms → ℕ) (us : List User) (ts : List Trade) (ps : List ℕ) (rise : T (idsRise 0 us)) (users : T (all (λ t. known us (side (t .terms))) ts)) (placed : PlacedOn side us ts ps)

@@ -3,6 +3,7 @@ use Rattle.base.specs.Basics.{_≡_, refl, sym, ap, subst, _∙_, Bool, true, L
 use Rattle.base.specs.Basics.{drop, getD, set, replicate, length-set, length-replicate, getD-set-other, getD-set-same, eq-eqb}
 use Rattle.base.specs.Basics.{ne-eqb}
 use Rattle.base.proofs.Linear.{by-order}
+use Rattle.base.proofs.Tests.{of-three}
 use Rattle.book_format.proofs.Held.{accepted-ids}
 use Rattle.book_format.proofs.Passed.{length-usersOf}
 use Rattle.book_format.proofs.Places.{user-field, user-is}
@@ -18,7 +19,8 @@ use Rattle.fields.specs.Field.{field}
 use Rattle.rules.specs.Areas.{managersIn}
 use Rattle.rules.specs.Bearers.{bearer}
 use Rattle.rules.specs.Book.{User, managerIn, nobody}
-use Rattle.book_questions.proofs.Loops.{Listed, listed-end, listed-start, listed-turn, rest-set}
+use Rattle.fields.proofs.Sets.{rest-set}
+use Rattle.book_questions.proofs.Loops.{Listed, listed-end, listed-start, listed-turn}
 use Rattle.risk_bearers.proofs.Places.{place-is}
 use Rattle.risk_bearers.specs.Bearers.{BearersOf, IdsOf}
 
@@ -93,6 +95,27 @@ module _ (s : List ℕ) (a : Accepted s) {i : ℕ} (h : i < userCount s) (area :
 
 -- ---- user by user
 
+-- three numbers of each user, filled in from the front: one user more
+pub three-more : (P : ℕ → ℕ → ℕ → Type 0) (xs : List ℕ) (i x y z : ℕ) → 3 * i + 2 < length xs → ((j area : ℕ) → j < i → area < 3 → P j area (getD xs (3 * j + area) 0))
+    → P i 0 x → P i 1 y → P i 2 z → (j area : ℕ) → j < i + 1 → area < 3 → P j area (getD (set (set (set xs (3 * i) x) (3 * i + 1) y) (3 * i + 2) z) (3 * j + area) 0)
+three-more P xs i x y z room before ex ey ez j area h k =
+    let one = set xs (3 * i) x in
+    let two = set one (3 * i + 1) y in
+    let long : length one ≡ length xs = length-set xs (3 * i) x in
+    let first : 3 * i + 0 ≡ 3 * i = omega arith in
+    by-order j i
+    (λ m. rw (getD-set-other two (3 * i + 2) (3 * j + area) z 0 (λ e. omega arith), getD-set-other one (3 * i + 1) (3 * j + area) y 0 (λ e. omega arith), getD-set-other xs (3 * i) (3 * j + area) x 0 (λ e. omega arith)) (before j area m k))
+    (λ m.
+    let e : i ≡ j = omega arith in
+    subst (λ (n : ℕ). P n area (getD (set two (3 * i + 2) z) (3 * n + area) 0)) e
+    (of-three (λ (a : ℕ). P i a (getD (set two (3 * i + 2) z) (3 * i + a) 0))
+    (rw (first, getD-set-other two (3 * i + 2) (3 * i) z 0 (λ e. omega arith), getD-set-other one (3 * i + 1) (3 * i) y 0 (λ e. omega arith), getD-set-same xs (3 * i) x 0 (omega arith)) ex)
+    (rw (getD-set-other two (3 * i + 2) (3 * i + 1) z 0 (λ e. omega arith), getD-set-same one (3 * i + 1) y 0 (omega arith)) ey)
+    (rw (getD-set-same two (3 * i + 2) z 0 (omega (arith, length-set one (3 * i + 1) y))) ez) area k))
+
+pub three-length : (xs : List ℕ) (a b c x y z : ℕ) → length (set (set (set xs a x) b y) c z) ≡ length xs
+three-length xs a b c x y z = rw (length-set, length-set, length-set)
+
 pub record BearersTo (us : List User) (i : ℕ) (table : List ℕ) : Type 0 where
   pub room : length table ≡ 192
   pub each : (j area : ℕ) → j < i → area < 3 → getD table (3 * j + area) 0 ≡ placeIn (idsOf us) (bearer (getD us j nobody) area)
@@ -101,34 +124,10 @@ pub bearers-more : (us : List User) {i : ℕ} {table : List ℕ} (x y z : ℕ) �
     → x ≡ placeIn (idsOf us) (bearer (getD us i nobody) 0) → y ≡ placeIn (idsOf us) (bearer (getD us i nobody) 1) → z ≡ placeIn (idsOf us) (bearer (getD us i nobody) 2)
     → BearersTo us (i + 1) (set (set (set table (3 * i) x) (3 * i + 1) y) (3 * i + 2) z)
 bearers-more us {i} {table} x y z l p ex ey ez =
-    let one = set table (3 * i) x in
-    let two = set one (3 * i + 1) y in
-    let three = set two (3 * i + 2) z in
     record {
-      room = length-set two (3 * i + 2) z ∙ length-set one (3 * i + 1) y ∙ length-set table (3 * i) x ∙ p .room;
-      each = λ j area h k.
-          by-order j i
-          (λ m.
-          getD-set-other two (3 * i + 2) (3 * j + area) z 0 (λ e. omega arith) ∙ getD-set-other one (3 * i + 1) (3 * j + area) y 0 (λ e. omega arith)
-          ∙ getD-set-other table (3 * i) (3 * j + area) x 0 (λ e. omega arith) ∙ p .each j area m k)
-          (λ m. let e : i ≡ j = omega arith in subst (λ (n : ℕ). getD three (3 * n + area) 0 ≡ placeIn (idsOf us) (bearer (getD us n nobody) area)) e (here area k));
+      room = three-length table (3 * i) (3 * i + 1) (3 * i + 2) x y z ∙ p .room;
+      each = three-more (λ j area n. n ≡ placeIn (idsOf us) (bearer (getD us j nobody) area)) table i x y z (omega (arith, p .room)) (p .each) ex ey ez;
     }
-  where
-    here : (area : ℕ) → area < 3 → getD (set (set (set table (3 * i) x) (3 * i + 1) y) (3 * i + 2) z) (3 * i + area) 0 ≡ placeIn (idsOf us) (bearer (getD us i nobody) area)
-    here zero k =
-        let one = set table (3 * i) x in
-        let two = set one (3 * i + 1) y in
-        getD-set-other two (3 * i + 2) (3 * i + 0) z 0 (λ e. omega arith) ∙ getD-set-other one (3 * i + 1) (3 * i + 0) y 0 (λ e. omega arith)
-        ∙ ap (λ (m : ℕ). getD one m 0) (let e : 3 * i + 0 ≡ 3 * i = omega arith in e) ∙ getD-set-same table (3 * i) x 0 (omega (arith, p .room)) ∙ ex
-    here (suc zero) k =
-        let one = set table (3 * i) x in
-        let two = set one (3 * i + 1) y in
-        getD-set-other two (3 * i + 2) (3 * i + 1) z 0 (λ e. omega arith) ∙ getD-set-same one (3 * i + 1) y 0 (omega (arith, length-set table (3 * i) x, p .room)) ∙ ey
-    here (suc (suc zero)) k =
-        let one = set table (3 * i) x in
-        let two = set one (3 * i + 1) y in
-        getD-set-same two (3 * i + 2) z 0 (omega (arith, length-set one (3 * i + 1) y, length-set table (3 * i) x, p .room)) ∙ ez
-    here (suc (suc (suc area))) k = absurd (omega arith)
 
 pub bearers-end : (s : List ℕ) {i : ℕ} {table : List ℕ} → userCount s ≤ i → BearersTo (usersOf s) i table → BearersOf (usersOf s) table
 bearers-end s h p = record { room = p .room; each = λ j area l k. p .each j area (omega (arith, length-usersOf s)) k }

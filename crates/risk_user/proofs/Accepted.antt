@@ -1,5 +1,5 @@
 -- What an accepted book in bytes tells: where its trades stand, the range of the prices, and of the blocked guarantee of the user at a place. Assumes nothing.
-use Rattle.base.specs.Basics.{_≡_, List, ℕ, _+_, _*_, _<_, _≤_, arith, drop, getD}
+use Rattle.base.specs.Basics.{_≡_, List, ℕ, _<_, _≤_, arith, drop, getD}
 use Rattle.rules.specs.Book.{Book, nobody}
 use Rattle.rules.specs.Questions.{userValid}
 use Rattle.laws.proofs.Bounds.{blocked-le, prices-le, selling-le, selling-most, tariffs-pos}

@@ -21,7 +21,7 @@ use Rattle.risk_user.specs.UserAt.{HeldWith, heldAt, heldBy, positionIn,
 -- ---- by the sums
 
 -- a sum at a place that is written otherwise
-at-sum : (sums : List ℕ) (m n : ℕ) → m ≡ n → getD sums m 0 ≡ getD sums n 0
+pub at-sum : (sums : List ℕ) (m n : ℕ) → m ≡ n → getD sums m 0 ≡ getD sums n 0
 at-sum sums m n e = ap (λ (k : ℕ). getD sums k 0) e
 
 -- the four sums of an area

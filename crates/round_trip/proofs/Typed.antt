@@ -1,5 +1,5 @@
 -- The book that a struct is fits its bytes, since the struct's fields are of their types. Assumes nothing.
-use Rattle.base.specs.Basics.{_≡_, refl, Bool, cond, true, false, List, [], _∷_, map, ℕ, zero, suc, _<_, _≤_, _^_, arith, length, take, length-map}
+use Rattle.base.specs.Basics.{_≡_, refl, Bool, cond, true, false, List, [], _∷_, map, ℕ, zero, suc, _<_, _^_, arith, length, take, length-map}
 use Rattle.base.specs.Basics.{length-take}
 use Rattle.fields.specs.Layout.{Every}
 use Rattle.rules.specs.Areas.{managersIn, sellingIn}

@@ -1,11 +1,10 @@
 -- Writing and reading back gives the same fields: what was written passes every question, and holds the book that the fields are. Assumes nothing.
-use Rattle.base.specs.Basics.{_≡_, ap, refl, sym, _∙_, Bool, _&&_, cond, true, false, Option, none, List, [], ℕ, _≤_, arith, T, eqb, eqb→eq, eqb-refl}
+use Rattle.base.specs.Basics.{_≡_, ap, refl, sym, _∙_, Bool, _&&_, cond, true, false, List, [], ℕ, _≤_, arith, T, eqb, eqb→eq, eqb-refl}
 use Rattle.base.specs.Basics.{leb, leb→le, le→leb, length, drop, replicate, length-take}
 use Rattle.base.proofs.Tests.{and-i, and-l, and-r, eqb-of, holds}
-use Rattle.base.specs.Lists.{all}
 use Rattle.rules.specs.Book as model
-use Rattle.rules.specs.Questions.{decided, numberOf, refusal, versionKnown}
-use Rattle.laws.proofs.Refusals.{first-yes, number-none, numbered, refusal-next, yes-first}
+use Rattle.rules.specs.Questions.{after, refusal, versionKnown}
+use Rattle.laws.proofs.Refusals.{first-yes, refusal-next, yes-first}
 use Rattle.fields.proofs.Records.{length-recordsOf}
 use Rattle.book_records.specs.Trade.{tradeOf}
 use Rattle.book_format.specs.Book.{bookOf, bytesOf, lengthBy, lengthOf, mark, markOf, tradeCount, tradesAt, userAt, userCount, versionOf}
@@ -13,7 +12,7 @@ use Rattle.book_format.specs.Questions.{aboutBytes, aboutFields, aboutForm, boo
 use Rattle.book_format.proofs.Written.{bookOf-fits, formed-bytesOf}
 use Rattle.book_tables.specs.Book.{asBook}
 use Rattle.book_tables.specs.declared.Book.{Book}
-use Rattle.book_value.specs.Written.{InCounts, Written, aboutWriting, countsInRange}
+use Rattle.book_value.specs.Written.{InCounts, aboutWriting, countsInRange}
 use Rattle.book_image.proofs.RoundTrip.{image-back}
 use Rattle.book_image.specs.Image.{imageOf, imageSize, imageTradesAt, imageUserSize, imageUsersAt, readImage}
 use Rattle.book_image.specs.ImageBook.{imageBook, imageUserOf, CountsOf}
@@ -24,12 +23,12 @@ use Rattle.round_trip.proofs.Operator.{operator-opened, operator-read}
 use Rattle.round_trip.proofs.Typed.{trade-count, typed-fits, user-count}
 
 -- no question refuses nothing
-nothing-asked : refusal [] ≡ none
-unfolding refusal
+nothing-asked : refusal [] ≡ 0
+unfolding refusal after
 nothing-asked = refl
 
 -- bytes of the right form pass the questions of the form
-form-passes : (s : List ℕ) → Formed s → refusal (aboutForm s) ≡ none
+form-passes : (s : List ℕ) → Formed s → refusal (aboutForm s) ≡ 0
 unfolding aboutForm marked versioned sized lengthOf lengthBy tradesAt userAt
 form-passes s f =
     let n = userCount s in
@@ -43,7 +42,7 @@ form-passes s f =
 
 -- what was written of a book of a known version with counts in range passes, where its fields do
 module _ (b : model.Book) (known : T (versionKnown (b .header .version))) (some : 1 ≤ length (b .users)) (few : length (b .users) ≤ 64) (many : length (b .trades) ≤ 256) where
-  passes : refusal (aboutFields (bytesOf b)) ≡ none → refusal (aboutBytes (bytesOf b)) ≡ none
+  passes : refusal (aboutFields (bytesOf b)) ≡ 0 → refusal (aboutBytes (bytesOf b)) ≡ 0
   unfolding aboutBytes
   passes q = refusal-next (aboutForm (bytesOf b)) (aboutFields (bytesOf b)) (form-passes _ (formed-bytesOf b known some few many)) ∙ q
 
@@ -67,41 +66,36 @@ in-range users trades k =
 record Asked (users trades : ℕ) (b : model.Book) : Type 0 where
   known : T (versionKnown (b .header .version))
   counts : Counts users trades
-  fields : refusal (aboutFields (bytesOf b)) ≡ none
+  fields : refusal (aboutFields (bytesOf b)) ≡ 0
 
-asked : (users trades : ℕ) (b : model.Book) (room : ℕ) → refusal (aboutWriting users trades b room) ≡ none → Asked users trades b
+asked : (users trades : ℕ) (b : model.Book) (room : ℕ) → refusal (aboutWriting users trades b room) ≡ 0 → Asked users trades b
 unfolding aboutWriting
 asked users trades b room q =
-    let q2 = first-yes _ _ q in
-    let q3 = first-yes _ _ (q2 .1) in
+    let q2 = first-yes _ _ q tt in
+    let q3 = first-yes _ _ (q2 .1) tt in
     record {
       known = q2 .0;
       counts = in-range users trades (and-l (countsInRange users trades) (eqb room (lengthBy (b .header .version) users trades)) (q3 .0));
       fields = q3 .1;
     }
 
--- no question has the number 0
-none-of : (users trades : ℕ) (b : model.Book) (room : ℕ) → numberOf (refusal (aboutWriting users trades b room)) ≡ 0 → refusal (aboutWriting users trades b room) ≡ none
-unfolding numbered aboutWriting aboutFields all
-none-of users trades b room e = number-none (aboutWriting users trades b room) tt e
-
 -- ---- by fields
 
 pub written-and-read : WrittenAndRead
-unfolding decided bookNumber numberOf asBook
+unfolding after bookNumber asBook
 written-and-read =
     record {
       same = λ b c out t r n typed w e read.
           let o = operator-opened read in
-          let q = none-of (b .«user_count») (b .«trade_count») (asBook b) (length out) (sym (w .asked) ∙ e) in
+          let q = sym (w .asked) ∙ e in
           let a = asked (b .«user_count») (b .«trade_count») (asBook b) (length out) q in
           let k = a .counts in
           let counts : InCounts b = record { version = a .known; some = k .some; users = k .few; trades = k .many } in
           let i = user-count b counts typed in
           let j = trade-count b counts typed in
-          let d : t ≡ bytesOf (asBook b) = w .part ∙ ap (λ (z : Option ℕ). decided z (λ m. out) (bytesOf (asBook b))) q in
-          let p : refusal (aboutBytes (bytesOf (asBook b))) ≡ none = passes (asBook b) (a .known) (omega (arith, i, k .some)) (omega (arith, i, k .few)) (omega (arith, j, k .many)) (a .fields) in
-          let h : n ≡ 0 = o .asked ∙ ap bookNumber d ∙ ap numberOf p in
+          let d : t ≡ bytesOf (asBook b) = w .part ∙ ap (λ (z : ℕ). after z (λ m. out) (bytesOf (asBook b))) q in
+          let p : refusal (aboutBytes (bytesOf (asBook b))) ≡ 0 = passes (asBook b) (a .known) (omega (arith, i, k .some)) (omega (arith, i, k .few)) (omega (arith, j, k .many)) (a .fields) in
+          let h : n ≡ 0 = o .asked ∙ ap bookNumber d ∙ p in
           (h, o .book h .book ∙ ap bookOf d ∙ bookOf-fits (asBook b) (typed-fits b counts typed));
     }
 
@@ -109,7 +103,7 @@ written-and-read =
 
 -- the number 0 tells that the image had its length, and that no question refused
 module _ (image out t : List ℕ) (r : ℕ) (w : WrittenFrom image out r t) (e : r ≡ 0) where
-  abbrev about : Option ℕ
+  abbrev about : ℕ
   about = refusal (aboutWriting (userCount image) (tradeCount image) (imageBook image) (length out))
 
   whole : length image ≡ imageSize
@@ -118,18 +112,18 @@ module _ (image out t : List ℕ) (r : ℕ) (w : WrittenFrom image out r t) (e :
     where
       go : (x : Bool) → eqb (length image) imageSize ≡ x → length image ≡ imageSize
       go true h = eqb→eq (length image) imageSize (holds h)
-      go false h = absurd (omega (arith, e, w .number ∙ ap (λ (x : Bool). cond x (numberOf about) 255) h))
+      go false h = absurd (omega (arith, e, w .number ∙ ap (λ (x : Bool). cond x about 255) h))
 
   by-whole : {A : Type 0} (x y : A) → byLength imageSize image x y ≡ x
   unfolding byLength
   by-whole x y = rw (whole, eqb-refl imageSize)
 
-  none-refuses : about ≡ none
-  none-refuses = none-of (userCount image) (tradeCount image) (imageBook image) (length out) (sym (by-whole _ _) ∙ sym (w .number) ∙ e)
+  none-refuses : about ≡ 0
+  none-refuses = sym (by-whole _ _) ∙ sym (w .number) ∙ e
 
   bytes-written : t ≡ bytesOf (imageBook image)
-  unfolding decided
-  bytes-written = w .part ∙ by-whole _ _ ∙ ap (λ (o : Option ℕ). decided o (λ n. out) (bytesOf (imageBook image))) none-refuses
+  unfolding after
+  bytes-written = w .part ∙ by-whole _ _ ∙ ap (λ (o : ℕ). after o (λ n. out) (bytesOf (imageBook image))) none-refuses
 
 module _ (image : List ℕ) (counts : CountsOf image (userCount image) (tradeCount image)) where
   image-users : length (imageBook image .users) ≡ userCount image
@@ -146,7 +140,7 @@ module _ (image : List ℕ) (counts : CountsOf image (userCount image) (tradeCou
   image-known h = h
 
 pub image-written-and-read : ImageWrittenAndRead
-unfolding byLength readImage decided bookNumber numberOf
+unfolding byLength readImage after bookNumber
 image-written-and-read =
     record {
       same = λ image out t lent again r n bytes w e l read.
@@ -165,11 +159,11 @@ image-written-and-read =
           let i = image-users image counts in
           let j = image-trades image counts in
           let d : t ≡ bytesOf (imageBook image) = bytes-written image out t r w e in
-          let p : refusal (aboutBytes t) ≡ none = ap (λ x. refusal (aboutBytes x)) d
+          let p : refusal (aboutBytes t) ≡ 0 = ap (λ x. refusal (aboutBytes x)) d
           ∙ passes (imageBook image) (a .known) (omega (arith, i, k .some)) (omega (arith, i, k .few)) (omega (arith, j, k .many)) (a .fields) in
           let y : eqb (length lent) imageSize ≡ true = ap (λ (x : ℕ). eqb x imageSize) l ∙ refl in
-          let m : again ≡ imageOf t = o .part ∙ ap (λ (x : Bool). cond x (readImage t) lent) y ∙ ap (λ (z : Option ℕ). decided z (λ k. replicate imageSize 0) (imageOf t)) p in (
-            o .number ∙ ap (λ (x : Bool). cond x (bookNumber t) 255) y ∙ ap numberOf p,
+          let m : again ≡ imageOf t = o .part ∙ ap (λ (x : Bool). cond x (readImage t) lent) y ∙ ap (λ (z : ℕ). after z (λ k. replicate imageSize 0) (imageOf t)) p in (
+            o .number ∙ ap (λ (x : Bool). cond x (bookNumber t) 255) y ∙ p,
             ap imageBook (m ∙ ap imageOf d) ∙ image-back counts bytes (image-known image counts (a .known)),
           );
     }

@@ -1,6 +1,6 @@
 -- Document 01, "The questions": a refusal is the number of the first question that is answered by no; the questions 2 to 7 of a book.
 -- (Question 1, the length in question 3 and the zero bytes in questions 5 and 6 are asked of a book in bytes.)
-use Rattle.base.specs.Basics.{Bool, true, false, not, cond, _&&_, _||_, Option, none, some, List, [], _∷_, ℕ, _^_, leb, ltb, eqb, ℤ, pos, negsuc}
+use Rattle.base.specs.Basics.{Bool, true, false, not, cond, _&&_, _||_, List, [], _∷_, ℕ, _^_, leb, ltb, eqb, ℤ, pos, negsuc, suc, zero}
 use Rattle.base.specs.Basics.{length}
 use Rattle.rules.specs.Areas.{Prices, sellingIn, managersIn}
 use Rattle.rules.specs.Signed.{within}
@@ -16,20 +16,19 @@ pub record Question : Type 0 where
   pub number : ℕ
   pub holds : Bool
 
--- "Asked in this order; the first 'no' gives the number."
-unfoldable pub refusal : List Question → Option ℕ
-refusal [] = none
-refusal (q ∷ qs) = cond (q .holds) (refusal qs) (some (q .number))
+-- What follows a question, or several, by their number: 0 where all are answered by yes, and then the rest follows; else a refusal with it.
+unfoldable pub after : {R : Type 0} → ℕ → (ℕ → R) → R → R
+after zero refused follows = follows
+after (suc n) refused follows = refused (suc n)
 
--- "An accepted call returns 0 as its number."
-unfoldable pub numberOf : Option ℕ → ℕ
-numberOf none = 0
-numberOf (some n) = n
+-- the number of questions that are asked one after the other, by that of the first and that of the second
+abbrev pub firstOf : ℕ → ℕ → ℕ
+firstOf n m = after n (λ k. k) m
 
--- every call: what it gives where a question refuses it, and what where it is accepted
-unfoldable pub decided : {R : Type 0} → Option ℕ → (ℕ → R) → R → R
-decided none refused accepted = accepted
-decided (some n) refused accepted = refused n
+-- "Asked in this order; the first 'no' gives the number." "An accepted call returns 0 as its number."
+unfoldable pub refusal : List Question → ℕ
+refusal [] = 0
+refusal (q ∷ qs) = firstOf (cond (q .holds) 0 (q .number)) (refusal qs)
 
 -- ---- 2 and 3: "Version 1?" or, by document 02's asks 3 and 5, version 2 or 3; "Counts in range?"
 
@@ -157,10 +156,6 @@ aboutBook b =
     ∷ (record { number = 6; holds = all (tradeValid (b .users)) (b .trades) }
     ∷ (record { number = 7; holds = all (positionsValid (b .trades)) (b .users) } ∷ [])))))
 
-unfoldable pub isNone : {A : Type 0} → Option A → Bool
-isNone none = true
-isNone (some n) = false
-
 -- no question about the book refuses it
 unfoldable pub accepted : Book → Bool
-accepted b = isNone (refusal (aboutBook b))
+accepted b = eqb (refusal (aboutBook b)) 0

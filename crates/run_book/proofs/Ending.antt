@@ -27,7 +27,7 @@ lowered-at ended i d = le-refl (d .standing)
 lowered-at (then p ps) zero d = p .lower
 lowered-at (then p ps) (suc i) d = lowered-at ps i d
 
-module _ {end : Result} {o : Book} (sound : Sound o) {ss origins ns areaCodes bs : List ℕ} {count : ℕ} (l : Listed (borneBook o) ss origins ns areaCodes bs count)
+module _ {end : Result Book} {o : Book} (sound : Sound o) {ss origins ns areaCodes bs : List ℕ} {count : ℕ} (l : Listed (borneBook o) ss origins ns areaCodes bs count)
     {ms : List ℕ} {r : Totals} (ran : Ran end o ms r) where
   -- the books as their risk is borne
   end-alike : Alike (borneBook o) (borneBook (end .book))

@@ -2,15 +2,11 @@
 use Rattle.base.specs.Basics.{_≡_, refl, ap, _∙_, none, some, List, _∷_, ℕ, zero, suc, _+_, _-_, arith}
 use Rattle.laws.proofs.Fuel.{run-stops}
 use Rattle.rules.specs.Book.{Book, User}
-use Rattle.rules.specs.Calls.{Answer, Result, nextReduced, ofCuts, ofRun, only, onward, reduced, runFor}
+use Rattle.rules.specs.Calls.{Answer, nextReduced, ofCuts, ofRun, only, onward, reduced, runFor}
 use Rattle.rules.specs.Levels.{Limits}
 use Rattle.rules.specs.Reduction.{Tally, target}
-use Rattle.run_state.proofs.Left.{continued}
+use Rattle.run_state.proofs.Left.{continued, same-totals}
 use Rattle.log_format.specs.Noted.{entryOf, noted, noting}
-
--- results of equal totals and one book
-pub same-totals : {x y z k m n : ℕ} (b : Book) → x ≡ k → y ≡ m → z ≡ n → _≡_ {A = Result} (record { answer = ofRun x y z; book = b }) (record { answer = ofRun k m n; book = b })
-same-totals b e f g = rw (e, f, g)
 
 module _ (limits : Limits) where
   -- ---- one more reduction

@@ -25,7 +25,7 @@ use Rattle.rules.specs.Book.{Book, Party, User}
 use Rattle.rules.specs.Calls.{Answer, Result, nextReduced, ofRun, runFor}
 use Rattle.rules.specs.Levels.{Limits}
 use Rattle.rules.specs.Reduction.{cuts, target}
-use Rattle.run_state.proofs.Left.{continued, next-nobody}
+use Rattle.run_state.proofs.Left.{continued, next-nobody, same-totals}
 use Rattle.base.proofs.Tests.{by-case}
 use Rattle.risk_user.proofs.Borne.{members-borne, party-borne}
 use Rattle.run_state.proofs.Stays.{Alike, Stays, alike-borne, party-stays, stays, users-many}
@@ -40,7 +40,7 @@ use Rattle.run_turns.specs.Turns.{RunTo, Turned}
 use Rattle.log_format.specs.Noted.{entryOf, noted}
 use Rattle.log_entries.proofs.Reductions.{reduction-entered}
 use Rattle.log_entries.specs.Entries.{EntriesIn, Notable, NotedAt}
-use Rattle.run_noted.proofs.Budget.{budget-spent, budget-stops, budget-turn, noted-spent, noted-stops, noted-turn, same-totals}
+use Rattle.run_noted.proofs.Budget.{budget-spent, budget-stops, budget-turn, noted-spent, noted-stops, noted-turn}
 use Rattle.run_noted.specs.Noted.{NotedBy, OriginsIn}
 
 -- ---- the entry of a reduction
@@ -176,17 +176,17 @@ module _ {limits : Limits} {s : List ℕ} {n count : ℕ} {l₀ : List ℕ} (man
     -- nobody is due, or the log is full
     pub noted-end : (due : Bool) → (due ≡ false → n ≤ place) → (due ≡ true → (place < n) × (have ≡ 256)) → NotedBy limits (bookOf s) count l₀ log ns t have due
     noted-end due rest more =
-        let w : Result = record { answer = ofRun (t .reductions) (t .mwh .0) (t .worth .0); book = b } in
+        let w : Result Book = record { answer = ofRun (t .reductions) (t .mwh .0) (t .worth .0); book = b } in
         let nobody-next : due ≡ false → nextReduced limits b (b .users) ≡ none = λ f. next-nobody (p .run .going .owed) (p .run .before) (omega (arith, rest f, members many sound (p .run))) in
         let none-left : due ≡ true → 256 - have ≡ 0 = λ y. omega (arith, more y .1) in
         let end : w ≡ runFor limits (256 - count) (bookOf s) =
         by-case due
         (λ y. sym (budget-spent limits b (256 - have) (t .reductions) (t .mwh .0) (t .worth .0) (none-left y)) ∙ p .budget)
         (λ f. sym (budget-stops limits b (256 - have) (t .reductions) (t .mwh .0) (t .worth .0) (nobody-next f)) ∙ p .budget) in
-        let e : b ≡ runFor limits (256 - count) (bookOf s) .book = ap (λ (x : Result). x .book) end in
+        let e : b ≡ runFor limits (256 - count) (bookOf s) .book = ap (λ (x : Result Book). x .book) end in
         record {
           ran = record {
-            answer = ap (λ (x : Result). x .answer) end;
+            answer = ap (λ (x : Result Book). x .answer) end;
             sound = subst Sound e (p .run .going .sound);
             lowered = rw e at (p .run .going .lowered);
             same = rw e at (p .run .going .same);

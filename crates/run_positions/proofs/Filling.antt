@@ -1,12 +1,13 @@
 -- Positions filled in from the bytes of a book, user by user; and which of a user's are negative. Assumes nothing.
-use Rattle.base.specs.Basics.{_≡_, sym, ap, subst, _∙_, Bool, false, List, [], _∷_, ℕ, zero, suc, _+_, _*_, _≤_, _<_, _^_, arith, ltb, length, getD}
-use Rattle.base.specs.Basics.{set, length-set, getD-set-same, getD-set-other, lt-ltb, le-ltb}
+use Rattle.base.specs.Basics.{_≡_, sym, ap, _∙_, Bool, false, List, [], _∷_, ℕ, zero, suc, _+_, _*_, _≤_, _<_, _^_, arith, ltb, length, getD}
+use Rattle.base.specs.Basics.{set, lt-ltb, le-ltb}
 use Rattle.book_format.proofs.Passed.{length-usersOf}
 use Rattle.book_format.specs.Book.{userCount, usersOf}
 use Rattle.base.proofs.Linear.{by-order}
 use Rattle.base.specs.Parts.{negPart}
 use Rattle.rules.specs.Book.{at, User, nobody}
 use Rattle.run_positions.specs.Moving.{ShortIn}
+use Rattle.risk_bearers.proofs.Table.{three-length, three-more}
 use Rattle.risk_user.specs.UserAt.{PositionsOf, positionIn}
 use Rattle.units.proofs.Amounts.{negPart-net}
 use Rattle.units.specs.Amounts.{net}
@@ -26,37 +27,10 @@ module _ (us : List User) where
       → net (record { 0 = x }) ≡ at (getD us i nobody .position) 0 → net (record { 0 = y }) ≡ at (getD us i nobody .position) 1
       → net (record { 0 = z }) ≡ at (getD us i nobody .position) 2 → PlacedTo us (i + 1) (set (set (set ps (3 * i) x) (3 * i + 1) y) (3 * i + 2) z)
   placed-more {i} {ps} x y z l p ex ey ez =
-      let one = set ps (3 * i) x in
-      let two = set one (3 * i + 1) y in
-      let all = set two (3 * i + 2) z in
       record {
-        room = length-set two (3 * i + 2) z ∙ length-set one (3 * i + 1) y ∙ length-set ps (3 * i) x ∙ p .room;
-        each = λ j area h k.
-            by-order j i
-            (λ m.
-            ap (λ (n : ℕ). net (record { 0 = n }))
-            (getD-set-other two (3 * i + 2) (3 * j + area) z 0 (λ e. omega arith) ∙ getD-set-other one (3 * i + 1) (3 * j + area) y 0 (λ e. omega arith) ∙ getD-set-other ps (3 * i) (3 * j + area) x 0 (λ e. omega arith))
-            ∙ p .each j area m k)
-            (λ m. let e : i ≡ j = omega arith in subst (λ (n : ℕ). positionIn all n area ≡ at (getD us n nobody .position) area) e (here area k));
+        room = three-length ps (3 * i) (3 * i + 1) (3 * i + 2) x y z ∙ p .room;
+        each = three-more (λ j area n. net (record { 0 = n }) ≡ at (getD us j nobody .position) area) ps i x y z (omega (arith, p .room)) (p .each) ex ey ez;
       }
-    where
-      here : (area : ℕ) → area < 3 → positionIn (set (set (set ps (3 * i) x) (3 * i + 1) y) (3 * i + 2) z) i area ≡ at (getD us i nobody .position) area
-      here zero k =
-          let one = set ps (3 * i) x in
-          let two = set one (3 * i + 1) y in
-          ap (λ (n : ℕ). net (record { 0 = n }))
-          (getD-set-other two (3 * i + 2) (3 * i + 0) z 0 (λ e. omega arith) ∙ getD-set-other one (3 * i + 1) (3 * i + 0) y 0 (λ e. omega arith)
-          ∙ ap (λ (m : ℕ). getD one m 0) (let e : 3 * i + 0 ≡ 3 * i = omega arith in e) ∙ getD-set-same ps (3 * i) x 0 (omega (arith, p .room))) ∙ ex
-      here (suc zero) k =
-          let one = set ps (3 * i) x in
-          let two = set one (3 * i + 1) y in
-          ap (λ (n : ℕ). net (record { 0 = n }))
-          (getD-set-other two (3 * i + 2) (3 * i + 1) z 0 (λ e. omega arith) ∙ getD-set-same one (3 * i + 1) y 0 (omega (arith, length-set ps (3 * i) x, p .room))) ∙ ey
-      here (suc (suc zero)) k =
-          let one = set ps (3 * i) x in
-          let two = set one (3 * i + 1) y in
-          ap (λ (n : ℕ). net (record { 0 = n })) (getD-set-same two (3 * i + 2) z 0 (omega (arith, length-set one (3 * i + 1) y, length-set ps (3 * i) x, p .room))) ∙ ez
-      here (suc (suc (suc area))) k = absurd (omega arith)
 
 pub placed-end : (s : List ℕ) {i : ℕ} {ps : List ℕ} → userCount s ≤ i → PlacedTo (usersOf s) i ps → PositionsOf (usersOf s) ps × (length ps ≡ 192)
 placed-end s h p = (record { each = λ j area l k. p .each j area (omega (arith, length-usersOf s)) k }, p .room)

@@ -64,12 +64,12 @@ module _ (ts : List ℕ) (least : ℕ) where
 -- ---- the whole run
 
 -- totals so far, with those of what is left
-unfoldable pub continued : ℕ → ℕ → ℕ → Result → Result
+unfoldable pub continued : ℕ → ℕ → ℕ → Result Book → Result Book
 continued r m w rest =
     record { answer = ofRun (r + rest .answer .reductions) (m + rest .answer .mwh) (w + rest .answer .worth); book = rest .book }
 
 -- results of equal totals and one book
-same-totals : {x y z k m n : ℕ} (b : Book) → x ≡ k → y ≡ m → z ≡ n → _≡_ {A = Result} (record { answer = ofRun x y z; book = b }) (record { answer = ofRun k m n; book = b })
+pub same-totals : {x y z k m n : ℕ} (b : Book) → x ≡ k → y ≡ m → z ≡ n → _≡_ {A = Result Book} (record { answer = ofRun x y z; book = b }) (record { answer = ofRun k m n; book = b })
 same-totals b e f g = rw (e, f, g)
 
 -- a run of the book o has come to b, with totals r, m and w: they and what is left of b are its whole run, and each is bounded by what can no longer be cut
@@ -139,5 +139,5 @@ module _ (limits : Limits) where
     left-end none-next =
         let e : continued r m w (record { answer = only 0; book = b }) ≡ wholeRun limits o
         = ap (continued r m w) (sym (run-stops limits (cuttable (b .trades)) b none-next)) ∙ p .whole in
-        let g : _≡_ {A = Result} (record { answer = ofRun r m w; book = b }) (wholeRun limits o) = same-totals b (omega arith) (omega arith) (omega arith) ∙ e in
-        (ap (λ (x : Result). x .answer) g, ap (λ (x : Result). x .book) g)
+        let g : _≡_ {A = Result Book} (record { answer = ofRun r m w; book = b }) (wholeRun limits o) = same-totals b (omega arith) (omega arith) (omega arith) ∙ e in
+        (ap (λ (x : Result Book). x .answer) g, ap (λ (x : Result Book). x .book) g)

@@ -8,7 +8,7 @@ use Rattle.book_format.proofs.OneUser.{place-known}
 use Rattle.book_format.specs.Steps.{placeOf}
 use Rattle.laws.proofs.{Fuel.reducedBy-mwh, Run.has-target, Run.reducedBy-less, Trades.framed}
 use Rattle.laws.specs.{Sound.Sound, Statements.ownHolding}
-use Rattle.base.proofs.Tests.{and-l, and-r, all-by, by-case, holds, and-false}
+use Rattle.base.proofs.Tests.{and-l, and-r, all-by, by-case, holds, and-false, or-true}
 use Rattle.rules.specs.{Areas.Prices, Reduction.Tally, Reduction.hasEligible, Reduction.nothing, Reduction.tallied, Reduction.tallyAll, Reduction.target}
 use Rattle.rules.specs.{Book.Book, Book.Header, Book.Party, Book.Trade, Book.User, Book.nobody, Calls.Answer, Calls.ofCuts, Calls.reducedBy}
 use Rattle.rules.specs.Levels.{Limits, Holding, exceedsMargin, holding, levelFrom, shipper, shortOfCover}
@@ -59,10 +59,6 @@ touched-buyers us j r h (c ∷ cs) (s ∷ ss) v =
     ap₂ (λ (x y : Bool). (x && ltb 0 c) || y)
     (place-test us (s .terms .buyer) j r (and-l (known us (s .terms .buyer)) (all (λ t. known us (t .terms .buyer)) ss) v) h)
     (touched-buyers us j r h cs ss (and-r (known us (s .terms .buyer)) (all (λ t. known us (t .terms .buyer)) ss) v))
-
-or-true : (x : Bool) → (x || true) ≡ true
-or-true true = refl
-or-true false = refl
 
 -- of two tests, the second first
 pub cond-and : (x y : Bool) (n : ℕ) → cond (x && y) n 0 ≡ cond y (cond x n 0) 0

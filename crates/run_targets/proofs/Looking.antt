@@ -1,7 +1,7 @@
 -- A part of the sales, passed one by one: whether one of them stands above 0, and the buyers of those that lost something, asked anew. Assumes nothing.
 use Rattle.base.specs.Basics.{_≡_, refl, sym, ap, ap₂, _∙_, Bool, true, false, cond, _&&_, _||_, List, ℕ, _+_, _≤_, _<_, min, arith, eqb, ltb, length}
 use Rattle.base.specs.Basics.{getD, set, length-set, getD-set-other, eq-eqb, ne-eqb, lt-ltb, le-ltb}
-use Rattle.base.proofs.Tests.{by-case}
+use Rattle.base.proofs.Tests.{and-false, and-true, by-case}
 use Rattle.base.specs.Lists.{any}
 use Rattle.base.proofs.Stores.{here-or-apart, set-each}
 use Rattle.run_state.specs.Asked.{LookedAgain, touched}
@@ -71,15 +71,11 @@ module _ {now : ℕ → ℕ} {es : List Bool} {from to : ℕ} {bs cs ts₀ : Lis
           rest = λ j l.
               let r = touched j (part (i + 1) to bs) (part (i + 1) to cs) in
               let e : touched j (part i to bs) (part i to cs) ≡ r
-              = next-touched j ∙ ap (λ (x : Bool). (eqb (getD bs i 0) j && x) || r) (le-ltb 0 (getD cs i 0) k) ∙ ap (λ (x : Bool). x || r) (none (eqb (getD bs i 0) j)) in
+              = next-touched j ∙ ap (λ (x : Bool). (eqb (getD bs i 0) j && x) || r) (le-ltb 0 (getD cs i 0) k) ∙ ap (λ (x : Bool). x || r) (and-false (eqb (getD bs i 0) j)) in
               ap (λ (x : Bool). cond (x && getD es j false) (now j) (getD ts j 0)) (sym e) ∙ p .rest j l;
           before = p .before;
           most = p .most;
         })
-      where
-        none : (x : Bool) → (x && false) ≡ false
-        none true = refl
-        none false = refl
 
     -- one that lost something
     module _ (k : 0 < getD cs i 0) (b : ℕ) (is : getD bs i 0 ≡ b) (l : b < 64) {us : List ℕ} {n : ℕ} (told : us ≡ cond (getD es b false) (set ts b (now b)) ts)
@@ -114,16 +110,12 @@ module _ {now : ℕ → ℕ} {es : List Bool} {from to : ℕ} {bs cs ts₀ : Lis
             rest = λ j m.
                 let r = touched j (part (i + 1) to bs) (part (i + 1) to cs) in
                 let e : touched j (part i to bs) (part i to cs) ≡ (eqb b j || r)
-                = next-touched j ∙ ap₂ (λ (x : ℕ) (y : Bool). (eqb x j && y) || r) is (lt-ltb 0 (getD cs i 0) k) ∙ ap (λ (x : Bool). x || r) (whole (eqb b j)) in
+                = next-touched j ∙ ap₂ (λ (x : ℕ) (y : Bool). (eqb x j && y) || r) is (lt-ltb 0 (getD cs i 0) k) ∙ ap (λ (x : Bool). x || r) (and-true (eqb b j)) in
                 asked-step (eqb b j) r (getD es j false) (now j) (getD ts j 0) (getD us j 0) (told-at j)
                 ∙ ap (λ (x : Bool). cond (x && getD es j false) (now j) (getD ts j 0)) (sym e) ∙ p .rest j m;
             before = told-before;
             most = by-case (getD es b false) (λ e. omega (arith, p .most, lower ∙ yes e (min low b) low)) (λ e. omega (arith, p .most, lower ∙ no e (min low b) low));
           }
-        where
-          whole : (x : Bool) → (x && true) ≡ x
-          whole true = refl
-          whole false = refl
 
   pub looked-end : {ts : List ℕ} {low i : ℕ} → to ≤ i → LookedTo now es from to bs cs ts₀ least ts low i → LookedAgain now es (part from to bs) (part from to cs) ts₀ ts low × (low ≤ least)
   unfolding touched

@@ -84,7 +84,7 @@ pub record RunTo (limits : Limits) (s : List ℕ) (n : ℕ) (ns ps ts : List ℕ
   pub here : place < n → 0 < getD ts place 0
 
 -- reductions of the book o, one after another, have given a result of the rules: its answer, and what stands of the own sales of its book as its risk is borne
-pub record Ran (end : Result) (o : Book) (ns : List ℕ) (r : Totals) : Type 0 where
+pub record Ran (end : Result Book) (o : Book) (ns : List ℕ) (r : Totals) : Type 0 where
   pub answer : totals r ≡ end .answer
   pub sound : Sound (end .book)
   pub lowered : Pairwise Lowered (o .trades) (end .book .trades)

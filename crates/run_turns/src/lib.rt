@@ -123,7 +123,7 @@ pub fn next_from(targets: &[u64; 64], least: usize, n: usize) -> usize
 }
 
 // Reduces the user at a place, which is due, for its target, and clears its cuts.
-pub fn plain_turn(
+fn plain_turn(
     book: &[u8],
     sums: &[u32; 768],
     starts: &[usize; 65],
@@ -195,7 +195,7 @@ pub struct Stage {
 }
 
 // Reduces the first user that is due in a book of n users, from a place on, until nobody is, or the run is long and one with many sales is.
-pub fn run_plain(
+fn run_plain(
     book: &[u8],
     n: usize,
     sums: &[u32; 768],

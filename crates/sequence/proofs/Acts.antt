@@ -1,23 +1,21 @@
 -- One request by the rules without a log, accepted or refused: a call, a list by its lines one after another, a withdrawal; what it does to a sound book. Assumes nothing.
-use Rattle.base.specs.Basics.{_≡_, ap, refl, subst, sym, Bool, cond, false, not, true, Option, none, some, List, [], _∷_, _<_, ℕ, zero, suc, arith, T, eqb, ltb}
-use Rattle.base.specs.Basics.{ltb→lt, ℤ, pos, _+ℤ_, ne-eqb}
-use Rattle.book_format.specs.After.{after}
+use Rattle.base.specs.Basics.{_≡_, ap, refl, subst, sym, Bool, cond, false, not, true, Option, none, some, List, [], _∷_, _<_, ℕ, zero, suc, arith, T, eqb, _∙_}
+use Rattle.base.specs.Basics.{ℤ, pos, _+ℤ_, ne-eqb}
 use Rattle.book_format.specs.Book.{bytesOf}
 use Rattle.laws.proofs.Moved.{Moved, moved-refl, moved-trans}
-use Rattle.laws.proofs.Refusals.{numbered, refusal-is}
+use Rattle.laws.proofs.Refusals.{refusal-is}
 use Rattle.laws.proofs.Sound.{none-refuses}
 use Rattle.laws.proofs.Trades.{lowered-refl, lowered-trans}
 use Rattle.laws.specs.Sound.{Sound}
 use Rattle.laws.specs.Statements.{AllCovered}
 use Rattle.laws.specs.Trades.{Lowered, Pairwise}
 use Rattle.log_format.specs.Fits.{aboutLog, logNumber}
-use Rattle.requests.proofs.Emptied.{about-numbered}
-use Rattle.requests.specs.Request.{call, postings, withdrawal, Act, Lines, Outcome, Setting, actIn, asBook, callAfter, firstOf, limitsOn, linesIn, openingIn, openingLines, openingWithIn, refusedGiven, resultIn, stepIn}
+use Rattle.requests.specs.Request.{call, postings, withdrawal, Act, Lines, Outcome, Setting, actIn, asBook, limitsOn, linesIn, openingIn, openingLines, openingWithIn, outcome, refusedGiven, stepIn}
 use Rattle.rules.specs.Book.{Book}
-use Rattle.rules.specs.Calls.{posting, morningCall, afternoonCall, reduction, run, Call, Result, about, effect, only}
+use Rattle.rules.specs.Calls.{posting, morningCall, afternoonCall, reduction, run, Call, Result, about, callAfter, effect, itself, only, resultIn, unchanged}
 use Rattle.rules.specs.Levels.{Limits}
 use Rattle.base.specs.Lists.{all}
-use Rattle.rules.specs.Questions.{Question, decided, numberOf, refusal}
+use Rattle.rules.specs.Questions.{Question, after, firstOf, refusal}
 use Rattle.store.specs.Store.{aboutStore, storeNumber}
 use Rattle.sequence.proofs.Step.{Effected, effect-law}
 use Rattle.sequence.specs.Links.{acceptedNumber}
@@ -98,7 +96,7 @@ module _ {limits : Limits} {b : Book} {log : Option (List ℕ)} where
   act-accepted a r e s m l c = record { sound = s; moved = rw e m; lowered = l; refused = λ q. absurd (rw e at q); covered = c }
 
   -- a call that has an effect, with any log afterwards
-  pub call-accepted : (c : Call) (r : Result) (m : Option (List ℕ)) → Effected limits b c r
+  pub call-accepted : (c : Call) (r : Result Book) (m : Option (List ℕ)) → Effected limits b c r
       → Acted limits b log (call c) (record { answer = r .answer; numbers = []; book = r .book; log = m })
   unfolding amountsIn countedIn
   call-accepted c r m e =
@@ -111,13 +109,8 @@ module _ {limits : Limits} {b : Book} {log : Option (List ℕ)} where
 abbrev pub Plain : ℕ → Type 0
 Plain n = T (not (eqb n 20))
 
-number-plain : (qs : List Question) → T (all (λ q. not (eqb (q .number) 20)) qs) → Plain (numberOf (refusal qs))
-unfolding numberOf
-number-plain qs h = go (refusal qs) refl
-  where
-    go : (o : Option ℕ) → refusal qs ≡ o → Plain (numberOf o)
-    go none e = tt
-    go (some n) e = refusal-is (λ i. not (eqb i 20)) qs n h e
+pub number-plain : (qs : List Question) → T (all (λ q. not (eqb (q .number) 20)) qs) → Plain (refusal qs)
+number-plain qs h = refusal-is (λ i. not (eqb i 20)) qs tt h
 
 first-plain : (n m : ℕ) → Plain n → Plain m → Plain (firstOf n m)
 unfolding after
@@ -127,8 +120,7 @@ first-plain (suc n) m h k = h
 module _ (g : Setting) (b : Book) (s : Sound b) where
   -- the book passes its own
   pub book-number : asBook .number b ≡ 0
-  unfolding numberOf
-  book-number = ap numberOf (none-refuses b s)
+  book-number = none-refuses b s
 
   pub opening-plain : Plain (openingIn asBook (asBook .number b) g b)
   unfolding openingIn storeNumber aboutStore all
@@ -147,19 +139,19 @@ module _ (g : Setting) (b : Book) (s : Sound b) where
 -- ---- calls
 
 -- after its opening questions by their number
-call-law : (limits : Limits) (b : Book) (c : Call) (n : ℕ) → Plain n → Sound b → Acted limits b none (call c) (callAfter asBook n limits b c)
-unfolding callAfter after decided resultIn about all numbered
+call-law : (limits : Limits) (b : Book) (c : Call) (n : ℕ) → Plain n → Sound b → Acted limits b none (call c) (outcome (callAfter itself n limits b c))
+unfolding callAfter after unchanged resultIn outcome refusedGiven about all
 call-law limits b c zero h s = go (refusal (about limits b c)) refl
   where
-    go : (o : Option ℕ) → refusal (about limits b c) ≡ o → Acted limits b none (call c) (decided o (refusedGiven none b) (resultIn asBook (effect limits b c)))
-    go none e = call-accepted c (effect limits b c) none (effect-law limits b c s e)
-    go (some n) e =
-        act-refused (call c) n s (ltb→lt 0 n (refusal-is (λ i. ltb 0 i) (about limits b c) n (about-numbered limits b c) e))
-        (λ d. refusal-is (λ i. not (eqb i 20)) (about limits b run) n tt (subst (λ (x : Call). refusal (about limits b x) ≡ some n) (same-call d) e))
+    go : (m : ℕ) → refusal (about limits b c) ≡ m → Acted limits b none (call c) (outcome (after m (unchanged b) (resultIn itself (effect limits b c))))
+    go zero e = call-accepted c (effect limits b c) none (effect-law limits b c s e)
+    go (suc m) e =
+        act-refused (call c) (suc m) s (omega arith)
+        (λ d. subst Plain (ap (λ (x : Call). refusal (about limits b x)) (sym (same-call d)) ∙ e) (number-plain (about limits b run) tt))
 call-law limits b c (suc n) h s = act-refused (call c) (suc n) s (omega arith) (λ d. h)
 
 -- in its setting
-pub step-law : (g : Setting) (b : Book) (c : Call) → Sound b → Acted (limitsOn g b) b none (call c) (stepIn asBook (asBook .number b) g b c)
+pub step-law : (g : Setting) (b : Book) (c : Call) → Sound b → Acted (limitsOn g b) b none (call c) (outcome (stepIn asBook (asBook .number b) g b c))
 unfolding stepIn
 step-law g b c s = call-law (limitsOn g b) b c (openingIn asBook (asBook .number b) g b) (opening-plain g b s) s
 
@@ -194,7 +186,7 @@ nothing-cut true = refl
 nothing-cut false = refl
 
 pub lines-law : (g : Setting) (b : Book) (ids areas : List ℕ) (amounts : List ℤ) → Sound b → Lined b areas amounts (linesIn asBook g b ids areas amounts)
-unfolding linesIn lineAmounts amountsIn amountIn countedIn counted acceptedNumber only
+unfolding linesIn lineAmounts amountsIn amountIn countedIn counted acceptedNumber only outcome
 lines-law g b [] areas amounts s = no-lines b areas amounts s
 lines-law g b (id ∷ ids) [] amounts s = no-lines b [] amounts s
 lines-law g b (id ∷ ids) (area ∷ areas) [] s = no-lines b (area ∷ areas) [] s

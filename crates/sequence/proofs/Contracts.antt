@@ -1,7 +1,6 @@
 -- The contracts of the public functions give links, as specs/Contracts.antt states it: calls and withdrawals have no lines, the places beside a list hold its lines' numbers
 -- where it is accepted, a refused list has none; and a lent log afterwards is the one that the request leaves. Assumes nothing.
 use Rattle.base.specs.Basics.{_≡_, _∙_, ap, refl, sym, Bool, false, true, Option, none, some, List, [], _∷_, _++_, ℕ, suc, zero, arith, length}
-use Rattle.book_format.specs.After.{after}
 use Rattle.book_format.specs.Book.{bookOf}
 use Rattle.book_format.specs.Questions.{bookNumber}
 use Rattle.log_format.specs.Log.{entriesOf}
@@ -9,36 +8,27 @@ use Rattle.log_format.specs.Noted.{Entered, callEntered, hasEntry, lastly, room
 use Rattle.requests.proofs.Lines.{lines-answer}
 use Rattle.requests.proofs.Logged.{actLent, with-log, without-log}
 use Rattle.requests.specs.Logged.{lentLog}
-use Rattle.requests.specs.Request.{call, postings, withdrawal, Act, Lines, Outcome, Setting, actBy, actIn, actWith, asBytes, callAfter, emptiedIn, enteredIn, limitsOn, linesIn, linesOf}
-use Rattle.requests.specs.Request.{loggedAfter, opening, openingLines, openingWith, refusedGiven, requestAfter, requestIn, resultIn, settingOf, stepIn, withdrawalAfter}
-use Rattle.rules.specs.Calls.{Answer, Call, Result, about, effect, only}
-use Rattle.rules.specs.Questions.{decided, refusal}
+use Rattle.requests.specs.Request.{call, postings, withdrawal, Act, Lines, Outcome, Setting, actBy, actIn, actWith, asBytes, emptiedIn, enteredIn, limitsOn, linesIn, linesOf, outcome}
+use Rattle.requests.specs.Request.{loggedAfter, opening, openingLines, openingWith, refusedGiven, requestAfter, requestIn, settingOf, withdrawalAfter}
+use Rattle.rules.specs.Calls.{Answer, Call, about, only}
+use Rattle.rules.specs.Questions.{after, refusal}
 use Rattle.store.specs.Store.{given}
 use Rattle.sequence.specs.Contracts.{ContractsLink, callLink, listLink, withdrawalLink}
 use Rattle.sequence.specs.Links.{then}
 
 -- ---- numbers of lines: of requests after the questions of the book, and 26, whose number is n
 
--- what the rules give, with a log or without, and a refusal have none
-entered-numbers : (k : ℕ) (o : Option ℕ) (l s : List ℕ) (e : Entered) → [] ≡ after k (refusedGiven (some l) s) (decided o (refusedGiven (some l) s) (enteredIn asBytes e)) .numbers
-unfolding after decided refusedGiven enteredIn
-entered-numbers zero none l s e = refl
-entered-numbers zero (some n) l s e = refl
-entered-numbers (suc k) o l s e = refl
-
-result-numbers : (k : ℕ) (o : Option ℕ) (s : List ℕ) (r : Result) → [] ≡ after k (refusedGiven none s) (decided o (refusedGiven none s) (resultIn asBytes r)) .numbers
-unfolding after decided refusedGiven resultIn
-result-numbers zero none s r = refl
-result-numbers zero (some n) s r = refl
-result-numbers (suc k) o s r = refl
+-- what the rules give with a log and a refusal have none
+entered-numbers : (k m : ℕ) (l s : List ℕ) (e : Entered) → [] ≡ after k (refusedGiven (some l) s) (after m (refusedGiven (some l) s) (enteredIn asBytes e)) .numbers
+unfolding after refusedGiven enteredIn
+entered-numbers zero zero l s e = refl
+entered-numbers zero (suc m) l s e = refl
+entered-numbers (suc k) m l s e = refl
 
 -- so a call has none,
 pub call-numbers : (n : ℕ) (g : Setting) (log : Option (List ℕ)) (s : List ℕ) (c : Call) → [] ≡ requestAfter n (actLent g log (call c)) s .numbers
-unfolding requestIn actBy actIn actWith stepIn callAfter loggedAfter
-call-numbers n g none s c =
-    let b = bookOf s in
-    let limits = limitsOn g b in
-    result-numbers (opening n g s) (refusal (about limits b c)) s (effect limits b c)
+unfolding requestIn actBy actIn actWith outcome loggedAfter
+call-numbers n g none s c = refl
 call-numbers n g (some l) s c =
     let b = bookOf s in
     let limits = limitsOn g b in

@@ -5,21 +5,21 @@ use Rattle.fields.specs.Field.{AllBytes}
 use Rattle.book_format.proofs.Formed.{book-passed}
 use Rattle.book_format.proofs.Passed.{passed-of}
 use Rattle.book_format.proofs.Round.{bytesOf-bookOf}
-use Rattle.book_format.specs.After.{after}
 use Rattle.book_format.specs.Book.{bookOf, bytesOf}
 use Rattle.book_format.specs.Questions.{bookNumber}
+use Rattle.book_format.specs.Steps.{inBytes}
 use Rattle.laws_deposits.proofs.Deposits.{deposits-least, deposits-suffice}
 use Rattle.laws_deposits.specs.Deposits.{lacking, withDeposits}
 use Rattle.log_format.specs.Noted.{callEntered, lastly, room, runWithin, stopped}
 use Rattle.requests.proofs.Emptied.{with-opening}
 use Rattle.requests.proofs.Logged.{without-number}
 use Rattle.requests.proofs.Opened.{opening-zero}
-use Rattle.requests.specs.Request.{actOf, call, actBy, actIn, actWith, asBytes, callAfter, enteredIn, limitsOn, loggedAfter, opening, openingWith, refusedGiven, request, requestIn, resultIn, settingOf, stepIn}
+use Rattle.requests.specs.Request.{actOf, call, actBy, actIn, actWith, asBytes, enteredIn, limitsOn, loggedAfter, opening, openingWith, outcome, refusedGiven, request, requestIn, settingOf, stepIn}
 use Rattle.rules.specs.Book.{Book, User}
-use Rattle.rules.specs.Calls.{Answer, Result, about, cuttable, effect, nextReduced, only, run, runFor}
+use Rattle.rules.specs.Calls.{Answer, Result, about, callAfter, cuttable, effect, nextReduced, only, resultIn, run, runFor, unchanged}
 use Rattle.rules.specs.Changes.{withUsers}
 use Rattle.rules.specs.Levels.{Limits, shortOfCover}
-use Rattle.rules.specs.Questions.{decided, refusal}
+use Rattle.rules.specs.Questions.{after, refusal}
 use Rattle.rules.specs.Reduction.{hasEligible, target}
 use Rattle.sequence.specs.Deposits.{DepositsStop}
 use Rattle.store.specs.Store.{limitsOf}
@@ -27,7 +27,7 @@ use Rattle.store.specs.Store.{limitsOf}
 -- ---- a run on bytes, by the number of its opening questions
 
 -- what a run that passes them gives on a book: without a log, or with one that has room for some entries
-unfoldable runs : Limits → Option (List ℕ) → Book → Result
+unfoldable runs : Limits → Option (List ℕ) → Book → Result Book
 runs limits none b = effect limits b run
 runs limits (some l) b = runWithin limits (room l) b
 
@@ -44,13 +44,13 @@ module _ (store : Option (List ℕ)) (s : List ℕ) where
   by-number : (log : Option (List ℕ)) (P : ℕ → Answer → List ℕ → Type 0) → ((n : ℕ) → P (suc n) (only (suc n)) s)
       → (bookNumber s ≡ 0 → let r = runs figures log (bookOf s) in P 0 (r .answer) (bytesOf (r .book)))
       → let x = request (actOf store log (call run)) s in P (asked log) (x .answer) (x .book)
-  unfolding requestIn actBy actIn actWith stepIn runs callAfter loggedAfter after resultIn decided refusal about lastly callEntered enteredIn refusedGiven
+  unfolding requestIn actBy actIn actWith stepIn outcome runs callAfter unchanged loggedAfter after resultIn refusal about lastly callEntered enteredIn refusedGiven
   by-number none P refused passed =
       subst (λ (n : ℕ). P n (request (actOf store none (call run)) s .answer) (request (actOf store none (call run)) s .book)) (sym (without-number (bookNumber s) (settingOf store) s))
       (go (opening (bookNumber s) (settingOf store) s) (λ e. passed (opening-zero (bookNumber s) (settingOf store) s e)))
     where
       go : (n : ℕ) → (n ≡ 0 → let r = runs figures none (bookOf s) in P 0 (r .answer) (bytesOf (r .book)))
-          → let x = callAfter asBytes n figures s run in P n (x .answer) (x .book)
+          → let x = callAfter inBytes n figures s run in P n (x .answer) (x .book)
       go zero h = h refl
       go (suc n) h = refused n
   by-number (some l) P refused passed =
@@ -69,7 +69,7 @@ module _ (limits : Limits) where
   unfolding runs effect withDeposits withUsers runWithin stopped
   idle none b = deposits-suffice limits .run (cuttable (b .trades)) b
   idle (some l) b =
-      ap (λ (r : Result). record { answer = stopped (nextReduced limits (r .book) (r .book .users)) (r .answer); book = r .book }) (deposits-suffice limits .run (room l) b)
+      ap (λ (r : Result Book). record { answer = stopped (nextReduced limits (r .book) (r .book .users)) (r .answer); book = r .book }) (deposits-suffice limits .run (room l) b)
       ∙ ap (λ (o : Option User). record { answer = stopped o (only 0); book = withDeposits (lacking limits b) b }) (deposits-suffice limits .next b)
 
   -- one deposited less: a run that returns 0 reduces
@@ -103,7 +103,7 @@ module _ (store log : Option (List ℕ)) where
       by-number store s log (λ n a t. (a ≡ only n) × (t ≡ s)) (λ n. (refl, refl))
       (λ z. let r : runs (figures store s) log (bookOf s) ≡ record { answer = only 0; book = withDeposits (lacking (limitsOf store (b .header .date)) b) b }
       = ap (λ (c : Book). runs (limitsOn (settingOf store) c) log c) e ∙ idle (limitsOf store (b .header .date)) log b in
-      (ap (λ (x : Result). x .answer) r, ap (λ (x : Result). bytesOf (x .book)) r ∙ ap bytesOf (sym e) ∙ bytesOf-bookOf s h (passed-of s (book-passed s z))))
+      (ap (λ (x : Result Book). x .answer) r, ap (λ (x : Result Book). bytesOf (x .book)) r ∙ ap bytesOf (sym e) ∙ bytesOf-bookOf s h (passed-of s (book-passed s z))))
 
   lessens : (b : Book) (amounts : User → ℕ) (u : User) (s : List ℕ) → bookOf s ≡ withDeposits amounts b → List·Memᴰ u (b .users)
       → let limits = limitsOf store (b .header .date) in T (shortOfCover limits b u) → T (hasEligible b u) → amounts u < target limits b u

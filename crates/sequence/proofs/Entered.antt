@@ -1,10 +1,9 @@
 -- One request by the rules with a log, accepted or refused: a call, a list, a withdrawal; what it does to a sound book, whatever log it is given. Assumes nothing.
-use Rattle.base.specs.Basics.{_≡_, ap, refl, subst, not, Option, none, some, List, [], _∷_, _++_, ℕ, zero, suc, arith, T, eqb, ltb, ltb→lt, length}
+use Rattle.base.specs.Basics.{_≡_, ap, refl, subst, Option, none, some, List, [], _∷_, _++_, ℕ, zero, suc, arith, T, ltb, length, sym, _∙_}
 use Rattle.base.specs.Lists.{all}
 use Rattle.book_format.proofs.Written.{bookOf-bytesOf}
-use Rattle.book_format.specs.After.{after}
 use Rattle.book_format.specs.Book.{bookOf, bytesOf, tradeCount, tradesOf}
-use Rattle.laws.proofs.Refusals.{append-yes, first-yes, number-none, numbered, refusal-is, yes-first}
+use Rattle.laws.proofs.Refusals.{append-yes, first-yes, first-zero, second-zero, yes-first}
 use Rattle.laws.specs.Sound.{Sound}
 use Rattle.log_format.proofs.Noted.{run-within}
 use Rattle.log_format.proofs.Read.{fits-facts, last-within}
@@ -13,15 +12,14 @@ use Rattle.log_format.specs.Fits.{aboutLog, logFits, logNumber, raisesWithin}
 use Rattle.log_format.specs.Log.{entriesIn, entriesOf, entryCount}
 use Rattle.log_format.specs.Noted.{callEntered, emptying, hasEntry, lastEntry, lastly, room, runWithin, withdrawalEntered}
 use Rattle.log_format.specs.Withdrawal.{returned}
-use Rattle.requests.proofs.Accepted.{own-numbered}
-use Rattle.requests.proofs.Opened.{first-zero, second-zero}
-use Rattle.requests.specs.Request.{call, postings, withdrawal, Act, Lines, Outcome, Request, Setting, actBy, actWith, asBook, emptiedIn, enteredIn, firstOf, limitsOn, linesIn, loggedAfter, openingIn, openingLines, openingWithIn, refusedGiven, requestGiven, requestIn, withdrawalAfter}
+use Rattle.requests.specs.Request.{call, postings, withdrawal, Act, Lines, Outcome, Request, Setting, actBy, actWith, asBook, emptiedIn, enteredIn, limitsOn, linesIn, loggedAfter, openingIn, openingLines, openingWithIn, refusedGiven, requestGiven, requestIn}
+use Rattle.requests.specs.Request.{withdrawalAfter}
 use Rattle.rules.specs.Book.{Book, Trade}
 use Rattle.rules.specs.Calls.{posting, morningCall, afternoonCall, reduction, run, Call, about, effect, ofRun}
 use Rattle.rules.specs.Levels.{Limits}
-use Rattle.rules.specs.Questions.{Question, decided, numberOf, refusal}
+use Rattle.rules.specs.Questions.{Question, after, firstOf, refusal}
 use Rattle.store.specs.Store.{storeNumber}
-use Rattle.sequence.proofs.Acts.{Acted, Lined, Plain, act-accepted, act-law, act-refused, call-accepted, lines-law, list-accepted, list-no-run, logged-plain, same-call, withdrawal-no-run}
+use Rattle.sequence.proofs.Acts.{Acted, Lined, Plain, act-accepted, act-law, act-refused, call-accepted, lines-law, list-accepted, list-no-run, logged-plain, number-plain, same-call, withdrawal-no-run}
 use Rattle.sequence.proofs.Step.{effect-law}
 use Rattle.sequence.specs.Links.{acceptedNumber}
 use Rattle.sequence.specs.Totals.{amountIn, amountsIn, counted, countedIn}
@@ -38,7 +36,7 @@ run-accepted limits b log m n s =
     act-accepted (call run) (record { answer = r .answer; numbers = []; book = r .book; log = m }) (q .number) (q .sound) (q .moved) (λ w. q .lowered) (λ d h. q .covered h)
 
 -- a call that its own questions let pass
-call-entered : (limits : Limits) (b : Book) (log : Option (List ℕ)) (n : ℕ) (es : List (List ℕ)) (c : Call) → Sound b → refusal (about limits b c) ≡ none
+call-entered : (limits : Limits) (b : Book) (log : Option (List ℕ)) (n : ℕ) (es : List (List ℕ)) (c : Call) → Sound b → refusal (about limits b c) ≡ 0
     → Acted limits b log (call c) (enteredIn asBook (callEntered limits n es b c))
 unfolding enteredIn callEntered emptying
 call-entered limits b log n es (posting id area amount) s e = call-accepted (posting id area amount) (effect limits b (posting id area amount)) _ (effect-law limits b (posting id area amount) s e)
@@ -67,13 +65,13 @@ withdrawal-entered limits l b s h k =
 
 -- a log that 19 does not refuse fits the book,
 pub log-fits : (l s : List ℕ) → logNumber (some l) s ≡ 0 → T (logFits l s)
-unfolding logNumber aboutLog numbered all
-log-fits l s e = first-yes _ _ (number-none (aboutLog (some l) s) tt e) .0
+unfolding logNumber aboutLog all
+log-fits l s e = first-yes _ _ e tt .0
 
 -- and one that fits is not refused
 pub fits-number : (l s : List ℕ) → T (logFits l s) → logNumber (some l) s ≡ 0
-unfolding logNumber aboutLog refusal numberOf
-fits-number l s h = ap numberOf (yes-first 19 (logFits l s) [] h)
+unfolding logNumber aboutLog refusal after
+fits-number l s h = yes-first 19 (logFits l s) [] h
 
 -- where they are passed, the store and the log pass theirs
 pub log-passed : (n : ℕ) (g : Setting) (l : List ℕ) (b : Book) → openingWithIn asBook n g (some l) b ≡ 0 → (storeNumber (g .store) (b .header .date) ≡ 0) × T (logFits l (bytesOf b))
@@ -88,18 +86,18 @@ log-passed n g l b e =
 module _ (limits : Limits) (l : List ℕ) (b : Book) (s : Sound b) where
   -- a call after its opening questions
   call-logged : (c : Call) (n : ℕ) → Plain n → Acted limits b (some l) (call c) (loggedAfter asBook n limits l b c)
-  unfolding loggedAfter after decided about lastly all numbered
+  unfolding loggedAfter after about lastly all
   call-logged c zero h = go (refusal own) refl
     where
       own : List Question
       own = about limits b c ++ lastly (room l) c
 
-      go : (o : Option ℕ) → refusal own ≡ o
-          → Acted limits b (some l) (call c) (decided o (refusedGiven (some l) b) (enteredIn asBook (callEntered limits (room l) (entriesOf (bytesOf b) l) b c)))
-      go none e = call-entered limits b (some l) (room l) (entriesOf (bytesOf b) l) c s (append-yes (about limits b c) (lastly (room l) c) e .0)
-      go (some n) e =
-          act-refused (call c) n s (ltb→lt 0 n (refusal-is (λ i. ltb 0 i) own n (own-numbered limits b (room l) c) e))
-          (λ d. refusal-is (λ i. not (eqb i 20)) (about limits b run ++ lastly (room l) run) n tt (subst (λ (x : Call). refusal (about limits b x ++ lastly (room l) x) ≡ some n) (same-call d) e))
+      go : (m : ℕ) → refusal own ≡ m
+          → Acted limits b (some l) (call c) (after m (refusedGiven (some l) b) (enteredIn asBook (callEntered limits (room l) (entriesOf (bytesOf b) l) b c)))
+      go zero e = call-entered limits b (some l) (room l) (entriesOf (bytesOf b) l) c s (append-yes (about limits b c) (lastly (room l) c) e .0)
+      go (suc m) e =
+          act-refused (call c) (suc m) s (omega arith)
+          (λ d. subst Plain (ap (λ (x : Call). refusal (about limits b x ++ lastly (room l) x)) (sym (same-call d)) ∙ e) (number-plain (about limits b run ++ lastly (room l) run) tt))
   call-logged c (suc n) h = act-refused (call c) (suc n) s (omega arith) (λ d. h)
 
   list-logged : (v : Lines) (r : Outcome Book) → Lined b (v .areas) (v .amounts) r → (n : ℕ) → Acted limits b (some l) (postings v) (after n (refusedGiven (some l) b) (emptiedIn asBook r))
@@ -108,15 +106,15 @@ module _ (limits : Limits) (l : List ℕ) (b : Book) (s : Sound b) where
   list-logged v r k (suc n) = act-refused (postings v) (suc n) s (omega arith) (λ d. absurd (list-no-run d))
 
   withdrawal-logged : (n : ℕ) → (n ≡ 0 → T (logFits l (bytesOf b))) → Acted limits b (some l) withdrawal (withdrawalAfter asBook n l b)
-  unfolding withdrawalAfter after decided hasEntry numbered all
+  unfolding withdrawalAfter after hasEntry all
   withdrawal-logged zero h = go (refusal (hasEntry es ∷ [])) refl
     where
       es : List (List ℕ)
       es = entriesOf (bytesOf b) l
 
-      go : (o : Option ℕ) → refusal (hasEntry es ∷ []) ≡ o → Acted limits b (some l) withdrawal (decided o (refusedGiven (some l) b) (enteredIn asBook (withdrawalEntered es b)))
-      go none e = withdrawal-entered limits l b s (h refl) (first-yes _ _ e .0)
-      go (some n) e = act-refused withdrawal n s (ltb→lt 0 n (refusal-is (λ i. ltb 0 i) (hasEntry es ∷ []) n tt e)) (λ d. absurd (withdrawal-no-run d))
+      go : (m : ℕ) → refusal (hasEntry es ∷ []) ≡ m → Acted limits b (some l) withdrawal (after m (refusedGiven (some l) b) (enteredIn asBook (withdrawalEntered es b)))
+      go zero e = withdrawal-entered limits l b s (h refl) (first-yes _ _ e tt .0)
+      go (suc m) e = act-refused withdrawal (suc m) s (omega arith) (λ d. absurd (withdrawal-no-run d))
   withdrawal-logged (suc n) h = act-refused withdrawal (suc n) s (omega arith) (λ d. absurd (withdrawal-no-run d))
 
 -- a request, with a log or none

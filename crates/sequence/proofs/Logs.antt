@@ -6,7 +6,6 @@ use Rattle.base.specs.Lists.{all}
 use Rattle.book_format.proofs.Passed.{passed}
 use Rattle.book_format.proofs.Round.{bytesOf-bookOf}
 use Rattle.book_format.proofs.Written.{bookOf-bytesOf}
-use Rattle.book_format.specs.After.{after}
 use Rattle.book_format.specs.Book.{bookOf, bytesOf}
 use Rattle.book_format.specs.Questions.{bookNumber}
 use Rattle.fields.specs.Field.{AllBytes}
@@ -17,10 +16,10 @@ use Rattle.log_format.specs.Fits.{logNumber, startFits, startNumber, started}
 use Rattle.log_format.specs.Log.{entriesOf, logBytes}
 use Rattle.log_format.specs.Noted.{beforeLast, hasEntry, lastEntry, withdrawalEntered}
 use Rattle.log_format.specs.Withdrawal.{returned, withdrawn}
-use Rattle.requests.specs.Request.{call, postings, withdrawal, Act, Outcome, Setting, actBy, actWith, asBook, enteredIn, firstOf, openingIn, openingWithIn, requestGiven, requestIn, settingOf, withdrawalAfter}
+use Rattle.requests.specs.Request.{call, postings, withdrawal, Act, Outcome, Setting, actBy, actWith, asBook, enteredIn, openingIn, openingWithIn, requestGiven, requestIn, settingOf, withdrawalAfter}
 use Rattle.rules.specs.Book.{Book}
 use Rattle.rules.specs.Calls.{Answer, ofRun}
-use Rattle.rules.specs.Questions.{decided, refusal}
+use Rattle.rules.specs.Questions.{after, firstOf, refusal}
 use Rattle.requests.specs.Logged.{lentLog}
 use Rattle.store.specs.Store.{storeNumber}
 use Rattle.sequence.proofs.Acts.{book-number}
@@ -96,15 +95,15 @@ module _ {g : Setting} {o l : List ℕ} (t : Traced g o l) (k : 0 < length (t .e
       ∙ ap (λ (n : ℕ). firstOf n (logNumber (some l) s)) (t .passes k)
       ∙ fits-number l s (traced-fits t)
 
-  has-entry : refusal (hasEntry (entriesOf (bytesOf (t .held)) l) ∷ []) ≡ none
-  unfolding hasEntry refusal
+  has-entry : refusal (hasEntry (entriesOf (bytesOf (t .held)) l) ∷ []) ≡ 0
+  unfolding hasEntry refusal after
   has-entry =
       let es = entriesOf (bytesOf (t .held)) l in
       yes-first 18 (ltb 0 (length es)) [] (lt→ltb 0 (length es) (subst (λ (x : List (List ℕ)). 0 < length x) (sym (traced-entries t)) k))
 
   -- what it gives
   withdrawal-gives : actLogged g l (t .held) withdrawal ≡ enteredIn asBook (withdrawalEntered (t .entries) (t .held))
-  unfolding actWith withdrawalAfter after decided
+  unfolding actWith withdrawalAfter after
   withdrawal-gives = rw (opened, has-entry) (ap (λ (x : List (List ℕ)). enteredIn asBook (withdrawalEntered x (t .held))) (traced-entries t))
 
   -- the log that it leaves

@@ -5,10 +5,11 @@ use Rattle.fields.specs.Field.{AllBytes}
 use Rattle.book_format.proofs.Formed.{book-passed}
 use Rattle.book_format.proofs.Passed.{passed-of}
 use Rattle.book_format.proofs.Round.{bytesOf-bookOf}
-use Rattle.book_format.specs.After.{after}
 use Rattle.book_format.specs.Book.{bookOf, bytesOf, tradesOf}
 use Rattle.book_format.specs.Questions.{aboutBytes, bookNumber}
+use Rattle.book_format.specs.Steps.{inBytes}
 use Rattle.laws.proofs.Fuel.{reduced-less}
+use Rattle.laws.proofs.Refusals.{second-zero}
 use Rattle.laws.proofs.Run.{reduced-law, run-none}
 use Rattle.laws.specs.Sound.{Sound}
 use Rattle.log_format.proofs.Main.{number-zero, runs-within}
@@ -18,13 +19,13 @@ use Rattle.log_format.specs.Fits.{logFits, logNumber}
 use Rattle.log_format.specs.Log.{entriesOf, logBytes}
 use Rattle.log_format.specs.Noted.{callEntered, lastly, room, runWithin, stopped}
 use Rattle.requests.proofs.Emptied.{with-opening}
-use Rattle.requests.proofs.Opened.{opening-zero, second-zero}
+use Rattle.requests.proofs.Opened.{opening-zero}
 use Rattle.requests.specs.Carried.{Carried}
-use Rattle.requests.specs.Request.{call, actBy, actIn, actOf, actWith, asBytes, callAfter, enteredIn, limitsOn, loggedAfter, opening, openingWith, openingWithIn, refusedGiven, request, requestIn, resultIn, settingOf, stepIn}
+use Rattle.requests.specs.Request.{call, actBy, actIn, actOf, actWith, asBytes, enteredIn, limitsOn, loggedAfter, opening, openingWith, openingWithIn, outcome, refusedGiven, request, requestIn, settingOf, stepIn}
 use Rattle.rules.specs.Book.{Book, User}
-use Rattle.rules.specs.Calls.{Answer, about, cuttable, effect, nextReduced, ofRun, only, onward, reduced, run, runFor}
+use Rattle.rules.specs.Calls.{Answer, about, callAfter, cuttable, effect, nextReduced, ofRun, only, onward, reduced, resultIn, run, runFor, unchanged}
 use Rattle.rules.specs.Levels.{Limits}
-use Rattle.rules.specs.Questions.{decided, refusal}
+use Rattle.rules.specs.Questions.{after, refusal}
 use Rattle.sequence.proofs.Acts.{accepted-zero}
 use Rattle.sequence.proofs.Entered.{log-fits}
 use Rattle.sequence.specs.Links.{acceptedNumber}
@@ -44,7 +45,7 @@ run-most limits (suc n) b s = go (nextReduced limits b (b .users)) refl (λ u. r
 
 -- what a run gave: some reductions of the rules' run on an accepted book, or a refusal
 data RunGave (limits : Limits) (s : List ℕ) : Answer → List ℕ → Type 0 where
-  ran : {a : Answer} {t : List ℕ} (n : ℕ) → refusal (aboutBytes s) ≡ none → a .reductions ≡ runFor limits n (bookOf s) .answer .reductions
+  ran : {a : Answer} {t : List ℕ} (n : ℕ) → refusal (aboutBytes s) ≡ 0 → a .reductions ≡ runFor limits n (bookOf s) .answer .reductions
       → acceptedNumber (call run) (a .number) ≡ true → t ≡ bytesOf (runFor limits n (bookOf s) .book) → RunGave limits s a t
   stayed : {a : Answer} {t : List ℕ} (n : ℕ) → a ≡ only n → t ≡ s → RunGave limits s a t
 
@@ -55,8 +56,8 @@ module _ (store : Option (List ℕ)) (s : List ℕ) where
   abbrev most : ℕ
   most = cuttable (bookOf s .trades)
 
-  without : (n : ℕ) → (n ≡ 0 → bookNumber s ≡ 0) → let x = callAfter asBytes n limits s run in RunGave limits s (x .answer) (x .book)
-  unfolding callAfter after refusedGiven resultIn decided refusal about effect
+  without : (n : ℕ) → (n ≡ 0 → bookNumber s ≡ 0) → let x = callAfter inBytes n limits s run in RunGave limits s (x .answer) (x .book)
+  unfolding callAfter after unchanged resultIn refusal about effect
   without zero h = ran most (book-passed s (h refl)) refl (accepted-zero (call run) (number-zero limits most (bookOf s))) refl
   without (suc n) h = stayed (suc n) refl refl
 
@@ -66,7 +67,7 @@ module _ (store : Option (List ℕ)) (s : List ℕ) where
   stops (some u) a = (refl, λ e. refl)
 
   within : (l : List ℕ) (n : ℕ) → (n ≡ 0 → bookNumber s ≡ 0) → let x = loggedAfter asBytes n limits l s run in RunGave limits s (x .answer) (x .book)
-  unfolding loggedAfter after decided refusal about lastly refusedGiven enteredIn callEntered runWithin
+  unfolding loggedAfter after refusal about lastly refusedGiven enteredIn callEntered runWithin
   within l zero h =
       let r = runFor limits (room l) (bookOf s) in
       let q = stops (nextReduced limits (r .book) (r .book .users)) (r .answer) in
@@ -74,7 +75,7 @@ module _ (store : Option (List ℕ)) (s : List ℕ) where
   within l (suc n) h = stayed (suc n) refl refl
 
   gave : (log : Option (List ℕ)) → RunGave limits s (request (actOf store log (call run)) s .answer) (request (actOf store log (call run)) s .book)
-  unfolding requestIn actBy actIn stepIn actWith
+  unfolding requestIn actBy actIn stepIn outcome actWith
   gave none = without (opening (bookNumber s) (settingOf store) s) (opening-zero (bookNumber s) (settingOf store) s)
   gave (some l) =
       within l (openingWith (bookNumber s) (settingOf store) (some l) s) (λ e. opening-zero (bookNumber s) (settingOf store) s (with-opening (bookNumber s) (settingOf store) (some l) s e))
@@ -112,11 +113,11 @@ run-length store log =
 
 module _ (store : Option (List ℕ)) (l s : List ℕ) (c : AllBytes l) (b : AllBytes s) where
   -- a log that passes question 19 is the log of its entries and the book
-  log-whole : refusal (aboutBytes s) ≡ none → T (logFits l s) → logBytes (entriesOf s l) s ≡ l
+  log-whole : refusal (aboutBytes s) ≡ 0 → T (logFits l s) → logBytes (entriesOf s l) s ≡ l
   log-whole p h = sym (logged-bytes (fits-logged c (passed-of s p .form .trades) h))
 
   by-log : (n : ℕ) → (n ≡ 0 → (bookNumber s ≡ 0) × T (logFits l s)) → let x = loggedAfter asBytes n (limits store s) l s run in x .answer .reductions ≡ 0 → x .log ≡ some l
-  unfolding loggedAfter after decided refusal about lastly refusedGiven enteredIn callEntered
+  unfolding loggedAfter after refusal about lastly refusedGiven enteredIn callEntered
   by-log zero h z =
       let p = book-passed s (h refl .0) in
       let q = runs-within (limits store s) .idle (room l) (bookOf s) (entriesOf s l) z in

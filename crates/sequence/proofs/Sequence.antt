@@ -5,9 +5,9 @@ use Rattle.fields.specs.Field.{AllBytes}
 use Rattle.book_format.proofs.Passed.{passed}
 use Rattle.book_format.proofs.Round.{bytesOf-bookOf}
 use Rattle.book_format.proofs.Written.{all-bytes-bytesOf, bookOf-bytesOf, written-number}
-use Rattle.book_format.specs.After.{after}
 use Rattle.book_format.specs.Book.{bookOf, bytesOf, tradesOf, usersOf}
 use Rattle.book_format.specs.Questions.{bookNumber}
+use Rattle.book_format.specs.Steps.{inBytes}
 use Rattle.base.specs.Sums.{sumℤ}
 use Rattle.laws.proofs.Moved.{Moved, moved-refl, moved-trans}
 use Rattle.laws.proofs.Positions.{positions-sum}
@@ -16,12 +16,12 @@ use Rattle.laws.specs.Trades.{Lowered, Pairwise}
 use Rattle.requests.specs.Carried.{Carried}
 use Rattle.log_format.specs.Log.{entriesOf, logBytes}
 use Rattle.log_format.specs.Noted.{Entered, callEntered, hasEntry, lastly, room, withdrawalEntered}
-use Rattle.requests.specs.Request.{call, postings, withdrawal, Act, Outcome, Request, Setting, actBy, actIn, actWith, asBook, asBytes, callAfter, emptiedIn, enteredIn, firstOf, limitsOn, linesIn}
-use Rattle.requests.specs.Request.{loggedAfter, openingIn, openingLines, openingWith, openingWithIn, refusedGiven, request, requestGiven, requestIn, resultIn, stepIn, withdrawalAfter}
+use Rattle.requests.specs.Request.{call, postings, withdrawal, Act, Outcome, Request, Setting, actBy, actIn, actWith, asBook, asBytes, emptiedIn, enteredIn, limitsOn, linesIn, outcome}
+use Rattle.requests.specs.Request.{loggedAfter, openingIn, openingLines, openingWith, openingWithIn, refusedGiven, request, requestGiven, requestIn, stepIn, withdrawalAfter}
 use Rattle.rules.specs.Book.{Book, Header}
-use Rattle.rules.specs.Calls.{posting, Answer, Call, Result, about, effect}
+use Rattle.rules.specs.Calls.{posting, Answer, Call, Result, about, callAfter, effect, itself, resultIn, unchanged}
 use Rattle.rules.specs.Levels.{Limits}
-use Rattle.rules.specs.Questions.{decided, refusal}
+use Rattle.rules.specs.Questions.{after, firstOf, refusal}
 use Rattle.sequence.proofs.Acts.{Acted, book-number, step-law}
 use Rattle.sequence.proofs.Entered.{request-law}
 use Rattle.sequence.proofs.TradeBytes.{trade-bytes}
@@ -50,15 +50,6 @@ module _ {s : List ℕ} (e : s ≡ bytesOf (bookOf s)) (log : Option (List ℕ))
   after-same zero w = w
   after-same (suc n) w = refused-same (suc n)
 
-  decided-same : (o : Option ℕ) {x : Outcome (List ℕ)} {y : Outcome Book} → Same x y → Same (decided o (refusedGiven log s) x) (decided o (refusedGiven log (bookOf s)) y)
-  unfolding decided
-  decided-same none w = w
-  decided-same (some n) w = refused-same n
-
-result-same : (r : Result) → Same (resultIn asBytes r) (resultIn asBook r)
-unfolding resultIn
-result-same r = record { answer = refl; numbers = refl; bytes = refl; log = refl }
-
 entered-same : (x : Entered) → Same (enteredIn asBytes x) (enteredIn asBook x)
 unfolding enteredIn
 entered-same x = record { answer = refl; numbers = refl; bytes = refl; log = refl }
@@ -68,16 +59,22 @@ unfolding emptiedIn
 emptied-same w = record { answer = w .answer; numbers = w .numbers; bytes = w .bytes; log = ap (λ (t : List ℕ). some (logBytes [] t)) (w .bytes) }
 
 module _ (g : Setting) where
-  step-same : (n : ℕ) (s : List ℕ) (c : Call) → s ≡ bytesOf (bookOf s) → Same (stepIn asBytes n g s c) (stepIn asBook n g (bookOf s) c)
-  unfolding stepIn callAfter openingIn
-  step-same n s c e =
-      let b = bookOf s in
-      let limits = limitsOn g b in
-      after-same e none (firstOf n (storeNumber (g .store) (b .header .date))) (decided-same e none (refusal (about limits b c)) (result-same (effect limits b c)))
+  step-same : (n : ℕ) (s : List ℕ) (c : Call) → s ≡ bytesOf (bookOf s) → Same (outcome (stepIn asBytes n g s c)) (outcome (stepIn asBook n g (bookOf s) c))
+  unfolding stepIn callAfter openingIn after unchanged resultIn outcome refusedGiven
+  step-same n s c e = go (firstOf n (storeNumber (g .store) (b .header .date))) (refusal (about (limitsOn g b) b c)) (effect (limitsOn g b) b c)
+    where
+      b : Book
+      b = bookOf s
+
+      go : (k m : ℕ) (r : Result Book)
+          → Same (outcome (after k (unchanged s) (after m (unchanged s) (resultIn inBytes r)))) (outcome (after k (unchanged b) (after m (unchanged b) (resultIn itself r))))
+      go zero zero r = record { answer = refl; numbers = refl; bytes = refl; log = refl }
+      go zero (suc m) r = refused-same e none (suc m)
+      go (suc k) m r = refused-same e none (suc k)
 
   -- the lines of a list, one after another
   lines-same : (s ids areas : List ℕ) (amounts : List ℤ) → AllBytes s → bookNumber s ≡ 0 → Same (linesIn asBytes g s ids areas amounts) (linesIn asBook g (bookOf s) ids areas amounts)
-  unfolding linesIn
+  unfolding linesIn outcome
   lines-same s [] areas amounts b h = record { answer = refl; numbers = refl; bytes = sym (bytesOf-bookOf s b (passed s h)); log = refl }
   lines-same s (id ∷ ids) [] amounts b h = record { answer = refl; numbers = refl; bytes = sym (bytesOf-bookOf s b (passed s h)); log = refl }
   lines-same s (id ∷ ids) (area ∷ areas) [] b h = record { answer = refl; numbers = refl; bytes = sym (bytesOf-bookOf s b (passed s h)); log = refl }
@@ -87,8 +84,8 @@ module _ (g : Setting) where
       let same : bookNumber s ≡ asBook .number held = h ∙ sym (book-number g held (passed s h .sound)) in
       let t = stepIn asBytes (bookNumber s) g s p .book in
       let n = stepIn asBook (asBook .number held) g held p .book in
-      let c : Same (stepIn asBytes (bookNumber s) g s p) (stepIn asBook (asBook .number held) g held p)
-      = subst (λ (k : ℕ). Same (stepIn asBytes (bookNumber s) g s p) (stepIn asBook k g held p)) same (step-same (bookNumber s) s p (sym (bytesOf-bookOf s b (passed s h)))) in
+      let c : Same (outcome (stepIn asBytes (bookNumber s) g s p)) (outcome (stepIn asBook (asBook .number held) g held p))
+      = subst (λ (k : ℕ). Same (outcome (stepIn asBytes (bookNumber s) g s p)) (outcome (stepIn asBook k g held p))) same (step-same (bookNumber s) s p (sym (bytesOf-bookOf s b (passed s h)))) in
       let sound = step-law g held p (passed s h .sound) .sound in
       let e : t ≡ bytesOf n = c .bytes in
       let r : Same (linesIn asBytes g t ids areas amounts) (linesIn asBook g n ids areas amounts)
@@ -122,14 +119,14 @@ module _ (n : ℕ) (g : Setting) (s : List ℕ) (b : AllBytes s) (h : bookNumber
       let limits = limitsOn g held in
       rw (bytesOf-bookOf s b (passed s h))
       (after-same bytes-held (some l) (openingWith n g (some l) s)
-      (decided-same bytes-held (some l) (refusal (about limits held c ++ lastly (room l) c)) (entered-same (callEntered limits (room l) (entriesOf s l) held c))))
+      (after-same bytes-held (some l) (refusal (about limits held c ++ lastly (room l) c)) (entered-same (callEntered limits (room l) (entriesOf s l) held c))))
   logged-same l (postings v) =
       rw (bytesOf-bookOf s b (passed s h))
       (after-same bytes-held (some l) (openingWith (openingLines n v) g (some l) s) (emptied-same (lines-same g s (v .ids) (v .areas) (v .amounts) b h)))
   logged-same l withdrawal =
       rw (bytesOf-bookOf s b (passed s h))
       (after-same bytes-held (some l) (openingWith n g (some l) s)
-      (decided-same bytes-held (some l) (refusal (hasEntry (entriesOf s l) ∷ [])) (entered-same (withdrawalEntered (entriesOf s l) held))))
+      (after-same bytes-held (some l) (refusal (hasEntry (entriesOf s l) ∷ [])) (entered-same (withdrawalEntered (entriesOf s l) held))))
 
   by-log : (log : Option (List ℕ)) (a : Act) → Same (actBy asBytes n g log s a) (actBy asBook n g log held a)
   unfolding actBy

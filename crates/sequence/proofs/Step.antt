@@ -1,5 +1,5 @@
 -- One call by the rules that no question refuses: what it does to a sound book. Assumes nothing.
-use Rattle.base.specs.Basics.{_≡_, _∙_, ap, refl, sym, none, ℕ, le-refl, arith, leb→le, ltb, ltb→lt, _+ℤ_}
+use Rattle.base.specs.Basics.{_≡_, _∙_, ap, refl, sym, ℕ, le-refl, arith, leb→le, ltb, ltb→lt, _+ℤ_}
 use Rattle.laws.proofs.Guarantee.{guarantee-moved, guarantee-sound}
 use Rattle.laws.proofs.Main.{run-ends}
 use Rattle.laws.proofs.Moved.{Moved}
@@ -30,7 +30,7 @@ isRun (reduction id) = 0
 isRun run = 1
 
 module _ (limits : Limits) where
-  pub record Effected (b : Book) (c : Call) (r : Result) : Type 0 where
+  pub record Effected (b : Book) (c : Call) (r : Result Book) : Type 0 where
     pub number : r .answer .number ≡ 0
     pub sound : Sound (r .book)
     pub moved : Moved b (r .book) (λ a. amountIn a c) (counted c (r .answer .mwh)) (counted c (r .answer .worth))
@@ -42,11 +42,11 @@ module _ (limits : Limits) where
   unfolding isRun
   other c e h = let k : _≡_ {A = ℕ} 0 1 = sym e ∙ ap isRun h in omega arith
 
-  pub effect-law : (b : Book) (c : Call) → Sound b → refusal (about limits b c) ≡ none → Effected b c (effect limits b c)
+  pub effect-law : (b : Book) (c : Call) → Sound b → refusal (about limits b c) ≡ 0 → Effected b c (effect limits b c)
   unfolding about effect idKnown isShipper entryInRange assignedSuffices assignedFallsShort marginExceeded calledInBeyondMargin eligibleTrade only ofLevel ofCuts guaranteed reduced reducedBy withUsers amountIn counted isRun
   effect-law b (posting id area amount) s h =
-      let q8 = first-yes _ _ h in
-      let q10 = first-yes _ _ (q8 .1) in
+      let q8 = first-yes _ _ h tt in
+      let q10 = first-yes _ _ (q8 .1) tt in
       let ok = within 1000000 (at (find (b .users) id .physical) area +ℤ amount) in
       let small = ltb→lt area 3 (and-l (ltb area 3) ok (q10 .0)) in
       record {
@@ -57,10 +57,10 @@ module _ (limits : Limits) where
         covered = λ e. absurd (other (posting id area amount) refl e);
       }
   effect-law b (morningCall id) s h =
-      let q8 = first-yes _ _ h in
-      let q9 = first-yes _ _ (q8 .1) in
-      let q11 = first-yes _ _ (q9 .1) in
-      let q12 = first-yes _ _ (q11 .1) in
+      let q8 = first-yes _ _ h tt in
+      let q9 = first-yes _ _ (q8 .1) tt in
+      let q11 = first-yes _ _ (q9 .1) tt in
+      let q12 = first-yes _ _ (q11 .1) tt in
       let u = find (b .users) id in
       let level = morningLevel limits b u in
       record {
@@ -71,10 +71,10 @@ module _ (limits : Limits) where
         covered = λ e. absurd (other (morningCall id) refl e);
       }
   effect-law b (afternoonCall id) s h =
-      let q8 = first-yes _ _ h in
-      let q9 = first-yes _ _ (q8 .1) in
-      let q11 = first-yes _ _ (q9 .1) in
-      let q12 = first-yes _ _ (q11 .1) in
+      let q8 = first-yes _ _ h tt in
+      let q9 = first-yes _ _ (q8 .1) tt in
+      let q11 = first-yes _ _ (q9 .1) tt in
+      let q12 = first-yes _ _ (q11 .1) tt in
       let u = find (b .users) id in
       let level = afternoonLevel limits b u in
       record {

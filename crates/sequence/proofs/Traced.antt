@@ -1,12 +1,11 @@
 -- What a log notes that was started empty and written by requests: the cuts that led from the book that it held when it was last without an entry to the one that it holds. Every request keeps it
 -- so. Assumes nothing.
-use Rattle.base.specs.Basics.{_≡_, _∙_, ap, refl, subst, sym, cond, Option, none, some, List, [], _∷_, _++_, ℕ, suc, zero, _+_, _≤_, _<_, arith, T, eqb}
+use Rattle.base.specs.Basics.{_≡_, _∙_, ap, refl, subst, sym, cond, Option, some, List, [], _∷_, _++_, ℕ, suc, zero, _+_, _≤_, _<_, arith, T, eqb}
 use Rattle.base.specs.Basics.{eqb·suc-zero, leb, leb→le, ltb, ltb→lt, length}
 use Rattle.base.proofs.Tests.{and-l, and-r}
 use Rattle.book_format.proofs.Offsets.{header-range, length-by, size-most}
 use Rattle.book_format.proofs.Passed.{length-tradesOf, passed}
 use Rattle.book_format.proofs.Written.{bookOf-bytesOf, length-bytesOf, written-number}
-use Rattle.book_format.specs.After.{after}
 use Rattle.book_format.specs.Book.{bookOf, bytesOf, tradeCount, tradesOf}
 use Rattle.fields.specs.Layout.{Every}
 use Rattle.laws.proofs.Refusals.{append-yes, first-yes}
@@ -24,7 +23,7 @@ use Rattle.requests.specs.Request.{call, postings, withdrawal, Act, Lines, Outc
 use Rattle.rules.specs.Book.{Book, Header, Trade, find}
 use Rattle.rules.specs.Calls.{posting, morningCall, afternoonCall, reduction, run, Call, about, effect}
 use Rattle.rules.specs.Levels.{Limits}
-use Rattle.rules.specs.Questions.{Question, countsValid, decided, refusal}
+use Rattle.rules.specs.Questions.{Question, after, countsValid, refusal}
 use Rattle.store.specs.Store.{storeNumber}
 use Rattle.requests.specs.Logged.{lentLog}
 use Rattle.sequence.proofs.Entered.{log-passed}
@@ -130,12 +129,12 @@ data Leads (o : Book) (es : List (List ℕ)) (b : Book) : Type 0 where
 
 module _ (limits : Limits) {o : Book} {es : List (List ℕ)} {b : Book} (p : Noted o es b) (n : ℕ) (k : n + length es ≤ 256) where
   -- a call whose last questions are answered by yes
-  call-leads : (c : Call) → refusal (lastly n c) ≡ none → let e = callEntered limits n es b c in Leads o (e .entries) (e .book) × (length (e .entries) ≤ 256)
+  call-leads : (c : Call) → refusal (lastly n c) ≡ 0 → let e = callEntered limits n es b c in Leads o (e .entries) (e .book) × (length (e .entries) ≤ 256)
   unfolding callEntered emptying effect runWithin lastly hasRoom
   call-leads (posting id area amount) h = (emptied refl, omega arith)
   call-leads (morningCall id) h = (emptied refl, omega arith)
   call-leads (afternoonCall id) h = (emptied refl, omega arith)
-  call-leads (reduction id) h = (more (reduction-noted limits (find (b .users) id) p), omega (arith, ltb→lt 0 n (first-yes _ _ h .0)))
+  call-leads (reduction id) h = (more (reduction-noted limits (find (b .users) id) p), omega (arith, ltb→lt 0 n (first-yes _ _ h tt .0)))
   call-leads run h = (more (run-noted limits n p), omega (arith, runs-within limits .entries n b es, runs-within limits .most n b))
 
 -- a withdrawal drops the last entry
@@ -192,7 +191,7 @@ module _ {g : Setting} {o l : List ℕ} (t : Traced g o l) (b : Book) (s : Sound
       subst (λ (x : List ℕ). Traced g (sinceLog x o) x) (ap (λ (x : Option (List ℕ)). lentLog x []) e) (leads-traced g (t .since) p k i (same-setting g b c h q))
 
   call-traced : {n : List ℕ} (c : Call) → Sound (actLogged g l b (call c) .book) → actLogged g l b (call c) .book .header ≡ b .header → actLogged g l b (call c) .log ≡ some n → Traced g (sinceLog n o) n
-  unfolding actWith loggedAfter after decided refusedGiven enteredIn
+  unfolding actWith loggedAfter after refusedGiven enteredIn
   call-traced {n} c = go (openingWithIn asBook (asBook .number b) g (some l) b) refl
     where
       own : List Question
@@ -201,12 +200,12 @@ module _ {g : Setting} {o l : List ℕ} (t : Traced g o l) (b : Book) (s : Sound
       e : Entered
       e = callEntered (limitsOn g b) (room l) (entriesOf (bytesOf b) l) b c
 
-      by-own : (storeNumber (g .store) (b .header .date) ≡ 0) × T (logFits l (bytesOf b)) → (x : Option ℕ) → refusal own ≡ x → let r = decided x (refusedGiven (some l) b) (enteredIn asBook e) in
+      by-own : (storeNumber (g .store) (b .header .date) ≡ 0) × T (logFits l (bytesOf b)) → (x : ℕ) → refusal own ≡ x → let r = after x (refusedGiven (some l) b) (enteredIn asBook e) in
           Sound (r .book) → r .book .header ≡ b .header → r .log ≡ some n → Traced g (sinceLog n o) n
-      by-own w none q k h i =
+      by-own w zero q k h i =
           let d = call-leads (limitsOn g b) (fits-noted (w .1)) (room l) (fits-room (w .1)) c (append-yes (about (limitsOn g b) b c) (lastly (room l) c) q .1) in
           entered-traced (e .entries) (e .book) (d .0) k (d .1) h (w .0) i
-      by-own w (some m) q k h i = refused-traced i
+      by-own w (suc m) q k h i = refused-traced i
 
       go : (x : ℕ) → openingWithIn asBook (asBook .number b) g (some l) b ≡ x → let r = loggedAfter asBook x (limitsOn g b) l b c in
           Sound (r .book) → r .book .header ≡ b .header → r .log ≡ some n → Traced g (sinceLog n o) n
@@ -214,18 +213,18 @@ module _ {g : Setting} {o l : List ℕ} (t : Traced g o l) (b : Book) (s : Sound
       go (suc m) q k h i = refused-traced i
 
   withdrawal-traced : {n : List ℕ} → Sound (actLogged g l b withdrawal .book) → actLogged g l b withdrawal .book .header ≡ b .header → actLogged g l b withdrawal .log ≡ some n → Traced g (sinceLog n o) n
-  unfolding actWith withdrawalAfter after decided refusedGiven enteredIn withdrawalEntered hasEntry
+  unfolding actWith withdrawalAfter after refusedGiven enteredIn withdrawalEntered hasEntry
   withdrawal-traced {n} = go (openingWithIn asBook (asBook .number b) g (some l) b) refl
     where
       es : List (List ℕ)
       es = entriesOf (bytesOf b) l
 
-      by-entry : (storeNumber (g .store) (b .header .date) ≡ 0) × T (logFits l (bytesOf b)) → (x : Option ℕ) → refusal (hasEntry es ∷ []) ≡ x → let r = decided x (refusedGiven (some l) b) (enteredIn asBook (withdrawalEntered es b)) in
+      by-entry : (storeNumber (g .store) (b .header .date) ≡ 0) × T (logFits l (bytesOf b)) → (x : ℕ) → refusal (hasEntry es ∷ []) ≡ x → let r = after x (refusedGiven (some l) b) (enteredIn asBook (withdrawalEntered es b)) in
           Sound (r .book) → r .book .header ≡ b .header → r .log ≡ some n → Traced g (sinceLog n o) n
-      by-entry w none q k h i =
-          let d = withdrawal-leads es (fits-noted (w .1)) (first-yes _ _ q .0) in
+      by-entry w zero q k h i =
+          let d = withdrawal-leads es (fits-noted (w .1)) (first-yes _ _ q tt .0) in
           entered-traced (beforeLast es) (withdrawn b (lastEntry es)) (more (d .0)) k (omega (arith, d .1, fits-room (w .1))) h (w .0) i
-      by-entry w (some m) q k h i = refused-traced i
+      by-entry w (suc m) q k h i = refused-traced i
 
       go : (x : ℕ) → openingWithIn asBook (asBook .number b) g (some l) b ≡ x → let r = withdrawalAfter asBook x l b in
           Sound (r .book) → r .book .header ≡ b .header → r .log ≡ some n → Traced g (sinceLog n o) n

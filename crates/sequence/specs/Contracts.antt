@@ -1,10 +1,10 @@
 -- The contracts of the public functions give the links of a sequence: who has them of calls, withdrawals and lists of postings that follow one another has the sequence, and
 -- with it its claim. Assumes nothing.
 use Rattle.base.specs.Basics.{Bool, Option, some, List, [], _∷_, ℕ, ℤ, length}
-use Rattle.book_format.specs.After.{after}
 use Rattle.requests.specs.Logged.{Logged, Posted, listWith}
 use Rattle.requests.specs.Request.{call, withdrawal, actOf}
 use Rattle.rules.specs.Calls.{Answer, Call, only}
+use Rattle.rules.specs.Questions.{after}
 use Rattle.store.specs.Store.{given}
 use Rattle.sequence.specs.Links.{Link, Linked}
 

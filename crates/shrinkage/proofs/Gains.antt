@@ -1,22 +1,18 @@
 -- What the user at a place gets: its part of H, which is at most what its own balance is below 0. Assumes nothing.
-use Rattle.base.specs.Basics.{_≡_, refl, sym, ap, _∙_, Bool, true, false, not, cond, Option, none, some, List, [], _∷_, _++_, map, ℕ, zero, suc, _*_}
+use Rattle.base.specs.Basics.{_≡_, refl, sym, ap, _∙_, Bool, true, false, not, cond, List, [], _∷_, _++_, map, ℕ, zero, suc, _*_}
 use Rattle.base.specs.Basics.{_-_, _/_, _%_, _<_, _≤_, div-mul-le-self, le-of-mul-le-mul-right, mul-comm, mul-le-mul-right, mul-zero, zero-mod, arith}
 use Rattle.base.specs.Basics.{T, ltb, ℤ, pos, length, getD, replicate, lt-ltb}
+use Rattle.base.proofs.Fronts.{none-past}
 use Rattle.base.specs.Parts.{negPart}
-use Rattle.rules.specs.Questions.{refusal, decided}
+use Rattle.rules.specs.Questions.{after, refusal}
 use Rattle.shrinkage.proofs.Totals.{own-more, half-le}
 use Rattle.shrinkage.specs.Return.{Returned, total, isNegative, half, own, ownSum, shareOf, remainderOf, shares, remainders, inPlaces, nothing, given, about, returned}
 
 -- ---- a number for each user, in the user's place
 
-zeros-at : (n i : ℕ) → _≡_ {A = ℕ} (getD (replicate n 0) i 0) 0
-zeros-at zero i = refl
-zeros-at (suc n) zero = refl
-zeros-at (suc n) (suc i) = zeros-at n i
-
 -- past the users it is that of a balance of 0
 number-at : (f : ℤ → ℕ) → f (pos 0) ≡ 0 → (zs : List ℤ) (n i : ℕ) → getD (map f zs ++ replicate n 0) i 0 ≡ f (getD zs i (pos 0))
-number-at f e [] n i = zeros-at n i ∙ sym e
+number-at f e [] n i = none-past n i 0 ∙ sym e
 number-at f e (z ∷ zs) n zero = refl
 number-at f e (z ∷ zs) n (suc i) = number-at f e zs n i
 
@@ -46,13 +42,13 @@ remainder-none h s z e = ap (λ (n : ℕ). h * n % s) e ∙ ap (λ (n : ℕ). n 
 
 -- what holds of nothing, and of what a negative total returns, holds of every return
 by-way : (zs : List ℤ) (P : Returned → Type 0) → ((n : ℕ) → P (nothing n)) → (T (isNegative (total zs)) → P (given zs)) → P (returned zs)
-unfolding returned decided
+unfolding returned after
 by-way zs P empty full = go (refusal (about zs)) (isNegative (total zs)) full
   where
-    go : (o : Option ℕ) (c : Bool) → (T c → P (given zs)) → P (decided o nothing (cond c (given zs) (nothing 0)))
-    go none true k = k tt
-    go none false k = empty 0
-    go (some n) c k = empty n
+    go : (n : ℕ) (c : Bool) → (T c → P (given zs)) → P (after n nothing (cond c (given zs) (nothing 0)))
+    go zero true k = k tt
+    go zero false k = empty 0
+    go (suc n) c k = empty (suc n)
 
 module _ (zs : List ℤ) (i : ℕ) where
   -- the user's own balance, 0 past the users
@@ -77,12 +73,12 @@ module _ (zs : List ℤ) (i : ℕ) where
 
   pub share-most : getD (returned zs .shares) i 0 ≤ own (getD zs i (pos 0))
   unfolding nothing balance
-  share-most = by-way zs (λ r. getD (r .shares) i 0 ≤ own (getD zs i (pos 0))) (λ n. omega (arith, zeros-at 64 i)) given-le
+  share-most = by-way zs (λ r. getD (r .shares) i 0 ≤ own (getD zs i (pos 0))) (λ n. omega (arith, none-past {A = ℕ} 64 i 0)) given-le
 
   pub none-gained : T (not (isNegative (getD zs i (pos 0)))) → (getD (returned zs .shares) i 0 ≡ 0) × (getD (returned zs .remainders) i 0 ≡ 0)
   unfolding nothing balance
   none-gained u =
       let e = own-none (getD zs i (pos 0)) u in
       by-way zs (λ r. (getD (r .shares) i 0 ≡ 0) × (getD (r .remainders) i 0 ≡ 0))
-      (λ n. (zeros-at 64 i, zeros-at 64 i))
+      (λ n. (none-past {A = ℕ} 64 i 0, none-past {A = ℕ} 64 i 0))
       (λ t. (omega (arith, given-le t, e), remainder-at t ∙ remainder-none (half zs) (ownSum zs) (getD zs i (pos 0)) e))

@@ -1,5 +1,4 @@
 -- Laws of the return of shrinkage: the loops of the code, the ways out of a call, and the main laws.
-pub mod Signs
 pub mod Places
 pub mod Days
 pub mod Balances

@@ -1,11 +1,9 @@
 -- The laws of the return, each as its statement in specs/Statements.antt says it. Assumes nothing.
-use Rattle.base.specs.Basics.{_≡_, refl, sym, _∙_, Bool, true, false, not, cond, Option, none, some, List, ℕ, zero, suc, _+_, _*_, _-_, div-add-mod'}
+use Rattle.base.specs.Basics.{_≡_, refl, _∙_, Bool, true, false, not, cond, none, List, ℕ, zero, suc, _+_, _*_, _-_, div-add-mod'}
 use Rattle.base.specs.Basics.{mod-lt, arith, T, ℤ, natAbs, length, replicate}
 use Rattle.base.proofs.Sums.{sum-append}
 use Rattle.base.specs.Sums.{sum}
-use Rattle.laws.proofs.Refusals.{number-none, numbered}
-use Rattle.base.specs.Lists.{all}
-use Rattle.rules.specs.Questions.{refusal, decided, numberOf}
+use Rattle.rules.specs.Questions.{after, refusal}
 use Rattle.shrinkage.proofs.Days.{days-sum, days-even, length-over-days}
 use Rattle.shrinkage.proofs.Division.{shares-given}
 use Rattle.shrinkage.proofs.Gains.{share-most, none-gained}
@@ -35,25 +33,23 @@ given-sum zs t =
 
 -- ---- by the questions, and by the sign of the total
 
--- the number is the refusal's
-number-is : (zs : List ℤ) (o : Option ℕ) (c : Bool) → decided o nothing (cond c (given zs) (nothing 0)) .number ≡ numberOf o
-unfolding decided numberOf given nothing
-number-is zs none true = refl
-number-is zs none false = refl
-number-is zs (some n) c = refl
-
 -- the number 0 is no refusal
+passed : (n : ℕ) (r : Returned) → after n nothing r .number ≡ 0 → after n nothing r ≡ r
+unfolding after nothing
+passed zero r h = refl
+passed (suc n) r h = absurd (omega arith)
+
 accepted : (zs : List ℤ) → returned zs .number ≡ 0 → returned zs ≡ cond (isNegative (total zs)) (given zs) (nothing 0)
-unfolding returned decided about numbered all
-accepted zs h = rw (number-none (about zs) tt (sym (number-is zs (refusal (about zs)) (isNegative (total zs))) ∙ h))
+unfolding returned
+accepted zs h = passed (refusal (about zs)) (cond (isNegative (total zs)) (given zs) (nothing 0)) h
 
 -- another number is one
-all-zero : (zs : List ℤ) (o : Option ℕ) (c : Bool) → (decided o nothing (cond c (given zs) (nothing 0)) .number ≡ 0 → ⊥)
-    → decided o nothing (cond c (given zs) (nothing 0)) ≡ nothing (decided o nothing (cond c (given zs) (nothing 0)) .number)
-unfolding decided given nothing
-all-zero zs none true h = absurd (h refl)
-all-zero zs none false h = absurd (h refl)
-all-zero zs (some n) c h = refl
+all-zero : (zs : List ℤ) (n : ℕ) (c : Bool) → (after n nothing (cond c (given zs) (nothing 0)) .number ≡ 0 → ⊥)
+    → after n nothing (cond c (given zs) (nothing 0)) ≡ nothing (after n nothing (cond c (given zs) (nothing 0)) .number)
+unfolding after given nothing
+all-zero zs zero true h = absurd (h refl)
+all-zero zs zero false h = absurd (h refl)
+all-zero zs (suc n) c h = refl
 
 -- one of two, by a test
 when-yes : (c : Bool) (x y : Returned) → T c → cond c x y ≡ x

@@ -4,7 +4,7 @@ use Rattle.base.specs.Basics.{lt-leb}
 use Rattle.base.specs.Parts.{posPart}
 use Rattle.base.specs.Sums.{sum}
 use Rattle.base.specs.Lists.{all}
-use Rattle.rules.specs.Questions.{refusal, decided}
+use Rattle.rules.specs.Questions.{after, refusal}
 use Rattle.shrinkage.proofs.Totals.{size-is, is-negative, not-negative}
 use Rattle.shrinkage.specs.Answer.{kwhOf, SumsOf, Divisible, SharesOf}
 use Rattle.shrinkage.specs.Return.{total, isNegative, half, odd, ownSum, shareOf, remainderOf, shares, remainders, rest, inPlaces, nothing, given, inRange, about, returned}
@@ -14,19 +14,19 @@ use Rattle.shrinkage.specs.declared.Sums.{Sums}
 module _ (zs : List ℤ) where
   -- more than 64 users
   pub too-many : 64 < length zs → nothing 28 ≡ returned zs
-  unfolding returned about refusal decided
+  unfolding returned about refusal after
   too-many h = rw (lt-leb (length zs) 64 h)
 
   module _ (few : length zs ≤ 64) where
     -- a balance out of range
     pub one-out : all inRange zs ≡ false → nothing 27 ≡ returned zs
-    unfolding returned about refusal decided
+    unfolding returned about refusal after
     one-out e = rw (le-leb (length zs) 64 few, e)
 
     module _ {r : Sums} (s : SumsOf zs r) (valid : r .«in_range» ≡ true) where
       -- the sums are those of balances that pass both questions
       accepted : returned zs ≡ cond (isNegative (total zs)) (given zs) (nothing 0)
-      unfolding returned about refusal decided
+      unfolding returned about refusal after
       accepted = rw (le-leb (length zs) 64 few, sym (s .test) ∙ valid)
 
       above-is : r .above .0 ≡ sum posPart zs

@@ -4,10 +4,10 @@ use Rattle.base.specs.Basics.{T, leb, leb→le, eqb→eq, length}
 use Rattle.rules.specs.Calendar.{realDay}
 use Rattle.rules.specs.Levels.{Limits, today}
 use Rattle.base.specs.Lists.{all}
-use Rattle.rules.specs.Questions.{refusal, numberOf, isNone}
+use Rattle.rules.specs.Questions.{after, refusal}
 use Rattle.base.proofs.Tests.{and-l, and-r, by-test}
 use Rattle.units.specs.Limits.{LimitsInRange}
-use Rattle.store.specs.Store.{ParameterSet, setsFrom, setCount, setsOf, storeFormed, firstsRise, limitsValid, setValid, setsValid, storeValid, orElse, begun, inForce, aboutStore, storeNumber, figuresOf, limitsOf}
+use Rattle.store.specs.Store.{ParameterSet, setsFrom, setCount, setsOf, storeFormed, firstsRise, limitsValid, setValid, setsValid, storeValid, orElse, begun, inForce, aboutStore, storeNumber, figuresOf, isNone, limitsOf}
 use Rattle.store.specs.Asked.{ByForce, ByStore}
 
 -- ---- in range
@@ -85,22 +85,22 @@ module _ {date number : ℕ} {limits : Limits} where
 
   -- there is no store
   pub no-store : number ≡ 0 → limits ≡ today → ByStore none date number limits
-  unfolding storeNumber aboutStore refusal numberOf limitsOf
+  unfolding storeNumber aboutStore refusal after limitsOf
   no-store n l = by-equations none n l
 
   -- the store is malformed
   pub store-16 : {s : List ℕ} → storeValid s ≡ false → number ≡ 16 → limits ≡ today → ByStore (some s) date number limits
-  unfolding storeNumber aboutStore refusal numberOf limitsOf
+  unfolding storeNumber aboutStore refusal after limitsOf
   store-16 {s} v n l = by-equations (some s) (rw v n) (rw v l)
 
   -- it is not: by the set in force
   pub store-by-force : {s : List ℕ} {n : ℕ} → storeValid s ≡ true → n ≡ setCount s → ByForce (inForce date (setsFrom n s)) number limits → ByStore (some s) date number limits
-  unfolding storeNumber aboutStore refusal numberOf limitsOf isNone setsOf
+  unfolding storeNumber aboutStore refusal after limitsOf isNone setsOf
   store-by-force {s} v count f =
       let g = rw count at f in
       by-equations (some s) (rw v (g .asked ∙ go (inForce date (setsOf s)))) (rw v (g .taken))
     where
-      go : (o : Option ParameterSet) → cond {A = ℕ} (isNone o) 17 0 ≡ numberOf (cond (not (isNone o)) none (some 17))
+      go : (o : Option ParameterSet) → cond {A = ℕ} (isNone o) 17 0 ≡ after (cond (not (isNone o)) 0 17) (λ k. k) 0
       go none = refl
       go (some p) = refl
 

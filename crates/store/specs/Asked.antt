@@ -1,10 +1,9 @@
 -- The set that the code's struct is, and what the code ensures of a store that it asks. Assumes nothing.
 use Rattle.base.specs.Basics.{_≡_, cond, Option, List, ℕ}
 use Rattle.rules.specs.Levels.{Limits}
-use Rattle.rules.specs.Questions.{isNone}
 use Rattle.units.specs.Limits.{asLimits, LimitsInRange}
 use Rattle.store.specs.Store as model
-use Rattle.store.specs.Store.{figuresOf, storeNumber, limitsOf}
+use Rattle.store.specs.Store.{figuresOf, storeNumber, isNone, limitsOf}
 use Rattle.store.specs.declared.ParameterSet.{ParameterSet}
 
 -- the same date and figures

@@ -5,7 +5,7 @@ use Rattle.fields.specs.Layout.{recordsOf}
 use Rattle.rules.specs.Calendar.{realDay}
 use Rattle.rules.specs.Levels.{Limits, today}
 use Rattle.base.specs.Lists.{all}
-use Rattle.rules.specs.Questions.{Question, refusal, numberOf, isNone}
+use Rattle.rules.specs.Questions.{Question, refusal}
 
 -- ---- the sets that bytes hold
 
@@ -79,6 +79,11 @@ unfoldable pub inForce : ℕ → List ParameterSet → Option ParameterSet
 inForce date [] = none
 inForce date (p ∷ ps) = orElse (inForce date ps) (begun date p)
 
+-- there is no set
+unfoldable pub isNone : Option ParameterSet → Bool
+isNone none = true
+isNone (some p) = false
+
 -- ---- a call's store, and its figures
 
 -- the store of a call: none, or bytes
@@ -94,7 +99,7 @@ aboutStore (some s) date =
 
 -- the number of the first that is answered by no, 0 where there is none
 unfoldable pub storeNumber : Option (List ℕ) → ℕ → ℕ
-storeNumber store date = numberOf (refusal (aboutStore store date))
+storeNumber store date = refusal (aboutStore store date)
 
 -- the figures of a set, today's where there is none
 unfoldable pub figuresOf : Option ParameterSet → Limits

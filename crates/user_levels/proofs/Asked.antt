@@ -1,10 +1,9 @@
 -- The levels of all users by the number of their opening questions: who is told, and what the public call gives. Assumes nothing.
 use Rattle.base.specs.Basics.{_≡_, _∙_, ap, refl, sym, List, ℕ, suc, zero}
 use Rattle.rules.specs.Levels.{Limits}
-use Rattle.book_format.specs.After.{after}
+use Rattle.rules.specs.Questions.{after}
 use Rattle.book_format.specs.Book.{bookOf}
 use Rattle.book_format.specs.Questions.{bookNumber}
-use Rattle.requests.proofs.Opened.{after-refused}
 use Rattle.requests.specs.Carried.{Admitted}
 use Rattle.requests.specs.Request.{Setting, limitsOn, openingIn}
 use Rattle.rights.proofs.Operator.{operator-asked, shipper-number, shipper-stopped}
@@ -12,6 +11,7 @@ use Rattle.rights.specs.Acting.{enteringNumber}
 use Rattle.rights.specs.Party.{Party, operator, operators, rightNumber, shipperOf}
 use Rattle.user_levels.specs.Claims.{LevelsBy}
 use Rattle.user_levels.specs.Levels.{AllLevels, allLevelsAfter, allLevelsBy, levelsAfter, noLevels, allLevels}
+use Rattle.laws.proofs.Refusals.{after-refused}
 
 -- ---- by the number of the questions
 

@@ -7,13 +7,12 @@ use Rattle.rules.specs.Book.{Book, User, find, nobody}
 use Rattle.rules.specs.Calls.{idKnown, isShipper}
 use Rattle.rules.specs.Day.{printedLevel}
 use Rattle.rules.specs.Levels.{Limits, afternoonLevel, morningLevel, shipper}
-use Rattle.rules.specs.Queries.{Query, aLevel, aboutQuery, afternoonLevelOf, found, morningLevelOf, onlyNumber}
-use Rattle.rules.specs.Questions.{decided, idsRise, known, refusal}
+use Rattle.rules.specs.Queries.{Query, aLevel, aboutQuery, afternoonLevelOf, found, morningLevelOf, onlyNumber, replyAfter}
+use Rattle.rules.specs.Questions.{after, idsRise, known, refusal}
 use Rattle.book_format.proofs.Passed.{passed}
-use Rattle.book_format.specs.After.{after, replyAfter}
 use Rattle.book_format.specs.Book.{bookOf}
 use Rattle.book_format.specs.Questions.{bookNumber}
-use Rattle.requests.proofs.Opened.{after-passed, opening-zero}
+use Rattle.requests.proofs.Opened.{opening-zero}
 use Rattle.requests.specs.Request.{Setting, enquiryAfter, limitsOn, opening}
 use Rattle.rights.proofs.Operator.{operator-asked}
 use Rattle.rights.specs.Acting.{enquiryBy}
@@ -21,6 +20,7 @@ use Rattle.rights.specs.Party.{matterOf, operator}
 use Rattle.views.proofs.Told.{known-above}
 use Rattle.user_levels.specs.Claims.{RowOf, RowsClaim, levelReply}
 use Rattle.user_levels.specs.Levels.{AllLevels, UserLevels, allLevels, allLevelsAfter, levelsAfter, levelsIn, levelsOf, noLevels, noUser, userRows}
+use Rattle.laws.proofs.Refusals.{after-passed}
 
 -- ---- the user at a place is the one of its id
 
@@ -98,13 +98,13 @@ module _ (g : Setting) (s : List ℕ) (accepted : allLevels g s .number ≡ 0) w
     replied : (q : Query) (level : User → ℕ) → aboutQuery book q ≡ idKnown book (user .party .id) ∷ (isShipper (find (book .users) (user .party .id)) ∷ [])
         → found (limitsOn g book) book q ≡ aLevel (level (find (book .users) (user .party .id)))
         → enquiryBy operator g s q ≡ levelReply (shipper user) (cond (shipper user) (level user) 0)
-    unfolding enquiryAfter replyAfter idKnown isShipper refusal decided levelReply aLevel onlyNumber
+    unfolding enquiryAfter replyAfter idKnown isShipper refusal after levelReply aLevel onlyNumber
     replied q level asks finds =
         ap (λ (n : ℕ). enquiryAfter n g s q) (operator-asked (matterOf q) s)
-        ∙ after-passed onlyNumber (decided (refusal (aboutQuery book q)) onlyNumber (found (limitsOn g book) book q)) opens
+        ∙ after-passed onlyNumber (after (refusal (aboutQuery book q)) onlyNumber (found (limitsOn g book) book q)) opens
         ∙ rw (asks, finds, user-known, user-found) (go (shipper user))
       where
-        go : (ships : Bool) → decided (refusal (record { number = 9; holds = ships } ∷ [])) onlyNumber (aLevel (level user)) ≡ levelReply ships (cond ships (level user) 0)
+        go : (ships : Bool) → after (refusal (record { number = 9; holds = ships } ∷ [])) onlyNumber (aLevel (level user)) ≡ levelReply ships (cond ships (level user) 0)
         go true = refl
         go false = refl
 

@@ -4,7 +4,7 @@ use Rattle.base.specs.Basics.{cond, List, _++_, map, ℕ, _-_, length, replicat
 use Rattle.rules.specs.Book.{Book, User}
 use Rattle.rules.specs.Day.{State, clear, printedLevel, state}
 use Rattle.rules.specs.Levels.{Limits, morningLevel, shipper}
-use Rattle.book_format.specs.After.{after}
+use Rattle.rules.specs.Questions.{after}
 use Rattle.book_format.specs.Book.{bookOf}
 use Rattle.book_format.specs.Questions.{bookNumber}
 use Rattle.requests.specs.Request.{Setting, limitsOn, opening}

@@ -2,7 +2,7 @@
 use Rattle.base.specs.Basics.{sym, _∙_, arith, take, length-take-le, now, needs}
 use Rattle.fields.specs.Field.{setField}
 use Rattle.fields.proofs.Field.{length-setField}
-use Rattle.book_columns.proofs.Written.{front-set}
+use Rattle.fields.proofs.Sets.{front-set}
 use Rattle.book_columns.proofs.copy_header.Statement.{statement}
 use Rattle.book_columns.proofs.copy_header.Tie as tie
 

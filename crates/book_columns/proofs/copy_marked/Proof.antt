@@ -1,7 +1,7 @@
 -- `copy_marked` copies the header over the whole part, and sets the mark there. Assumes nothing.
 use Rattle.base.specs.Basics.{ap, _∙_, now, needs}
 use Rattle.fields.specs.Field.{setField}
-use Rattle.book_columns.proofs.Written.{all-copied}
+use Rattle.fields.proofs.Sets.{all-copied}
 use Rattle.book_columns.proofs.copy_marked.Statement.{statement}
 use Rattle.book_columns.proofs.copy_marked.Tie as tie
 

@@ -3,7 +3,7 @@ use Rattle.base.specs.Basics.{sym, _∙_, arith, take, length-take-le, now, nee
 use Rattle.fields.specs.Field.{setField}
 use Rattle.fields.proofs.Field.{length-setField}
 use Rattle.book_format.specs.Book.{mark}
-use Rattle.book_image.proofs.Turns.{front-set}
+use Rattle.fields.proofs.Sets.{front-set}
 use Rattle.book_image.proofs.copy_header.Statement.{statement}
 use Rattle.book_image.proofs.copy_header.Tie as tie
 

@@ -2,7 +2,7 @@
 use Rattle.base.specs.Basics.{ap, _∙_, now, needs}
 use Rattle.fields.specs.Field.{setField}
 use Rattle.book_format.specs.Book.{mark}
-use Rattle.book_image.proofs.Turns.{all-copied}
+use Rattle.fields.proofs.Sets.{all-copied}
 use Rattle.book_image.proofs.copy_marked.Statement.{statement}
 use Rattle.book_image.proofs.copy_marked.Tie as tie
 

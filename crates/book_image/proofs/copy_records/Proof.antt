@@ -1,7 +1,7 @@
 -- `copy_records` copies the records over the whole part, and makes the field 0 in each of them there. Assumes nothing.
 use Rattle.base.specs.Basics.{ap, sym, _∙_, now, needs}
 use Rattle.book_image.specs.Zeroed.{zeroedRecords}
-use Rattle.book_image.proofs.Turns.{all-copied}
+use Rattle.fields.proofs.Sets.{all-copied}
 use Rattle.book_image.proofs.copy_records.Statement.{statement}
 use Rattle.book_image.proofs.copy_records.Tie as tie
 

@@ -1,21 +1,22 @@
 -- `read` leaves an image of 0 where a question refuses the bytes, and else the image of bytes of the right form. Assumes nothing.
-use Rattle.base.specs.Basics.{_≡_, sym, _∙_, arith, now, needs}
-use Rattle.rules.specs.Questions.{refusal, decided}
-use Rattle.laws.proofs.Refusals.{number-some}
-use Rattle.book_format.specs.Questions.{Formed, aboutBytes, bookNumber}
+use Rattle.base.specs.Basics.{_≡_, sym, _∙_, arith, now, needs, replicate}
+use Rattle.rules.specs.Questions.{after}
+use Rattle.laws.proofs.Refusals.{after-nonzero}
+use Rattle.book_format.specs.Questions.{Formed, bookNumber}
 use Rattle.book_format.proofs.Formed.{book-passed}
 use Rattle.book_format.proofs.Passed.{passed}
-use Rattle.book_image.specs.Image.{readImage}
+use Rattle.book_image.specs.Image.{imageOf, imageSize, readImage}
 use Rattle.book_image.proofs.read.Statement.{statement}
 use Rattle.book_image.proofs.read.Tie as tie
 
 returns : tie.Need-returns
-unfolding readImage bookNumber decided
+unfolding readImage bookNumber
 returns c =
     let asked = c .before .before .before .before .before .number in
     let start = c .before .before .before .before .before .before .before .before in
-    let r = number-some (refusal (aboutBytes (now (start .args .book)))) (asked .result) (asked .ensures) (c .before .before .before .before .if1 .taken) in
-    record { asked = asked .ensures; fields = c .before .before .clear .ensures ∙ rw (r, start .pre) }
+    let book = now (start .args .book) in
+    let refused = after-nonzero {number = bookNumber book} (λ n. replicate imageSize 0) (imageOf book) (λ e. c .before .before .before .before .if1 .taken (asked .ensures ∙ e)) in
+    record { asked = asked .ensures; fields = c .before .before .clear .ensures ∙ rw (refused, start .pre) }
 
 -- the bytes passed the questions, and so are of the right form
 accepted : (c : tie.Else1) → bookNumber (now (c .before .before .before .before .args .book)) ≡ 0
@@ -28,7 +29,7 @@ copy-book-requires : tie.Need-copy-book-requires
 copy-book-requires c κs = (formed (c .before .before), c .before .user-count .ensures, c .before .before .before .before .before .before .pre)
 
 returns-2 : tie.Need-returns-2
-unfolding readImage decided
+unfolding readImage after
 returns-2 c =
     let e = accepted (c .before .before .before .before .before) in
     record { asked = sym e; fields = c .before .before .copy-book .ensures ∙ rw (book-passed (now (c .before .before .before .before .before .before .before .before .before .args .book)) e) }

@@ -17,7 +17,7 @@ returns c =
     let r = c .before .ask .ensures in
     let at-known = c .before .before .before .before in
     let passes = admitted-book _ _ (r .0) (k .0) in
-    (admitted-by _ _ (r .0) (k .0), λ z. record { passes = passes z; accepted = accepted-of _ (λ j. at-known .shared-slice-known .given j .fits) (passes z); limits-in = k .1 })
+    (admitted-by _ _ (r .0) (k .0), (k .1, λ z. record { passes = passes z; accepted = accepted-of _ (λ j. at-known .shared-slice-known .given j .fits) (passes z); limits-in = k .1 }))
 
 pub admit-spec : {M : Type 1} → statement M
 admit-spec = tie.close (tie.spec (λ c κs. search needs) ask-requires by-store-requires returns)

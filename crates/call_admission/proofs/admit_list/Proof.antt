@@ -1,9 +1,9 @@
 -- `admit_list` asks the book, then 26, then whether the list fits, then the store: each hands on the number before it. Assumes nothing.
 use Rattle.base.specs.Basics.{_∙_, sym, arith, needs}
-use Rattle.requests.proofs.Opened.{first-zero}
 use Rattle.rights.specs.Party.{matterBy}
 use Rattle.call_admission.proofs.admit_list.Statement.{statement}
 use Rattle.call_admission.proofs.admit_list.Tie as tie
+use Rattle.laws.proofs.Refusals.{first-zero}
 
 ask-requires : tie.Need-ask-requires
 ask-requires c κs = (c .number .ensures, omega arith)

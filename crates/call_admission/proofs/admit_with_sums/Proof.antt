@@ -20,8 +20,11 @@ returns c =
     let long = at-known .before .pre .0 in
     let told = at-ask .ask in (
       admitted-by _ _ (r .0) (k .0),
-      λ z. book-opened (told .ensures .0) (λ j. at-known .shared-slice-known .given j .fits) (admitted-book _ _ (r .0) (k .0) z)
-          (told .kept .1 .0 ∙ long .0) (told .kept .1 .1 .0 ∙ long .1) (told .ensures .1) (k .1),
+      (
+        k .1,
+        λ z. book-opened (told .ensures .0) (λ j. at-known .shared-slice-known .given j .fits) (admitted-book _ _ (r .0) (k .0) z)
+            (told .kept .1 .0 ∙ long .0) (told .kept .1 .1 .0 ∙ long .1) (told .ensures .1) (k .1),
+      ),
     )
 
 pub admit-with-sums-spec : {M : Type 1} → statement M

@@ -4,7 +4,6 @@ use mathlib.Core.List.{List}
 use Prim.Native.Nat.{ℕ, zero, suc}
 use native.Mathlib.Omega.{arith}
 use denote.Ref.{now}
-use Rattle.book_format.specs.After.{after}
 use Rattle.book_format.specs.Questions.{bookNumber}
 use Rattle.book_format.proofs.Passed.{passed}
 use Rattle.call_entry.proofs.Asked.{entry-known, entry-unknown}
@@ -12,6 +11,7 @@ use Rattle.call_entry.specs.Entered.{Found}
 use borrow.Author.Needs.{needs}
 use Rattle.call_entry.proofs.seek.Statement.{statement}
 use Rattle.call_entry.proofs.seek.Tie as tie
+use Rattle.rules.specs.Questions.{after}
 
 abbrev bytes : tie.Start → List ℕ
 bytes s = now (s .args .s)

@@ -2,21 +2,21 @@
 use Rattle.base.specs.Basics.{_≡_, refl, sym, ap, _∙_, List, ℕ, arith, getD, now, needs}
 use Rattle.rules.specs.Levels.{Limits}
 use Rattle.units.specs.Limits.{asLimits}
-use Rattle.book_format.specs.Steps.{InBytes}
 use Rattle.call_entry.specs.Entered.{Found}
 use Rattle.call_guarantee.specs.Times.{callOf}
 use Rattle.call_entry.proofs.Calls.{called, found-at, found-user}
 use Rattle.call_parties.proofs.Borne.{plain-in}
-use Rattle.book_format.specs.After.{stepAfter}
 use Rattle.book_format.specs.Book.{bookOf, usersOf, versionOf}
 use Rattle.book_questions.specs.Opened.{Opened}
 use Rattle.risk_members.proofs.Members.{read-role}
 use Rattle.rules.specs.Areas.{managersIn}
 use Rattle.rules.specs.Book.{User, find, nobody}
+use Rattle.rules.specs.Calls.{Result, callAfter}
 use Rattle.call_guarantee.specs.Raised.{calledAt}
 use Rattle.call_guarantee.proofs.Ways.{both-right, call-ends, call-of-house, call-unentered, one-without}
 use Rattle.call_guarantee.proofs.call.Statement.{statement}
 use Rattle.call_guarantee.proofs.call.Tie as tie
+use Rattle.book_format.specs.Steps.{inBytes}
 
 abbrev start : tie.After-seek → tie.Start
 start c = c .before .before .before
@@ -114,7 +114,7 @@ call-at-requires c κs =
     ((told n .summed .figures, (λ e. b .bear-managed .ensures .0), found n .known), (read k .user-at .ensures, h .before .before .before .holdings-of .ensures))
 
 -- the end of the call
-ended : (h : tie.After-has-managers) → let e = entered (shipped h) .before in calledAt (start e .args .afternoon) (figures e) (bytes e) (e .seek .result .place) ≡ stepAfter (opened e) (figures e) (bytes e) (callOf (start e .args .afternoon) (asked e))
+ended : (h : tie.After-has-managers) → let e = entered (shipped h) .before in calledAt (start e .args .afternoon) (figures e) (bytes e) (e .seek .result .place) ≡ callAfter inBytes (opened e) (figures e) (bytes e) (callOf (start e .args .afternoon) (asked e))
 ended h =
     let k = shipped h in
     let n = entered k in
@@ -125,7 +125,7 @@ returns-3 : tie.Need-returns-3
 returns-3 c =
     let r = c .before .before in
     let x = ended (r .before .before .before .before .before .before .before .before .before .before) in
-    record { answer = r .call-at .ensures .0 ∙ ap (λ (y : InBytes). y .answer) x; bytes = r .call-at .ensures .1 ∙ ap (λ (y : InBytes). y .bytes) x }
+    record { answer = r .call-at .ensures .0 ∙ ap (λ (y : Result (List ℕ)). y .answer) x; bytes = r .call-at .ensures .1 ∙ ap (λ (y : Result (List ℕ)). y .book) x }
 
 call-at-requires-2 : tie.Need-call-at-requires-2
 call-at-requires-2 c κs =
@@ -143,7 +143,7 @@ returns-4 : tie.Need-returns-4
 returns-4 c =
     let r = c .before .before in
     let x = ended (r .before .before .before) in
-    record { answer = r .call-at2 .ensures .0 ∙ ap (λ (y : InBytes). y .answer) x; bytes = r .call-at2 .ensures .1 ∙ ap (λ (y : InBytes). y .bytes) x }
+    record { answer = r .call-at2 .ensures .0 ∙ ap (λ (y : Result (List ℕ)). y .answer) x; bytes = r .call-at2 .ensures .1 ∙ ap (λ (y : Result (List ℕ)). y .book) x }
 
 pub call-spec : {M : Type 1} → statement M
 call-spec =

@@ -1,11 +1,11 @@
 -- `call_at` ends as the questions 11 and 12 leave it. Assumes nothing.
-use Rattle.base.specs.Basics.{ap, _∙_, now, needs}
-use Rattle.book_format.specs.Steps.{InBytes}
+use Rattle.base.specs.Basics.{List, ℕ, ap, _∙_, now, needs}
 use Rattle.units.specs.Limits.{asLimits}
 use Rattle.risk_members.proofs.Holdings.{positions-held}
 use Rattle.call_guarantee.proofs.Ways.{called-with}
 use Rattle.call_guarantee.proofs.call_at.Statement.{statement}
 use Rattle.call_guarantee.proofs.call_at.Tie as tie
+use Rattle.rules.specs.Calls.{Result}
 
 abbrev start : tie.After-level-of-arg → tie.Start
 start c = c .before .before .before .before .before .before .before .before
@@ -33,7 +33,7 @@ returns c =
     let s = start (l .before) in
     let a = s .args in
     let x = called-with (asLimits (a .limits)) (now (a .book)) (a .place) (a .afternoon) (a .user) (s .pre .1 .0) (l .level-of .ensures) (d .is-due .ensures) in
-    (r .raise .ensures .0 ∙ ap (λ (y : InBytes). y .answer) x, r .raise .ensures .1 ∙ ap (λ (y : InBytes). y .bytes) x)
+    (r .raise .ensures .0 ∙ ap (λ (y : Result (List ℕ)). y .answer) x, r .raise .ensures .1 ∙ ap (λ (y : Result (List ℕ)). y .book) x)
 
 pub call-at-spec : {M : Type 1} → statement M
 call-at-spec = tie.close (tie.spec level-of-requires is-due-requires raise-requires (λ c. search needs) returns)

@@ -1,7 +1,7 @@
 -- `count` is refused by the entry, or counts the trades. Assumes nothing.
 use Rattle.base.specs.Basics.{_∙_, ap, false, [], ℕ, now}
 use Rattle.rights.specs.Trades.{countOf, idOf, tells, toldNumber}
-use Rattle.call_told.specs.Told.{countTold}
+use Rattle.call_answers.specs.Told.{countTold}
 use Rattle.call_told.proofs.Asked.{found-above, told-found, told-refused}
 use Rattle.call_told.proofs.count.Statement.{statement}
 use Rattle.call_told.proofs.count.Tie as tie

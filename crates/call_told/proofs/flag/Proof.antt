@@ -7,7 +7,7 @@ use Rattle.book_format.proofs.OneUser.{find-place}
 use Rattle.book_format.specs.Book.{bookOf, usersOf}
 use Rattle.call_entry.specs.Entered.{Found}
 use Rattle.rights.specs.Trades.{flagOf, idOf, tells, toldNumber}
-use Rattle.call_told.specs.Told.{flagTold}
+use Rattle.call_answers.specs.Told.{flagTold}
 use Rattle.call_told.proofs.Asked.{told-found, told-refused}
 use Rattle.call_told.proofs.flag.Statement.{statement}
 use Rattle.call_told.proofs.flag.Tie as tie

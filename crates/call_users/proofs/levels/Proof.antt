@@ -2,7 +2,7 @@
 use Rattle.base.specs.Basics.{refl, arith, now, needs}
 use Rattle.book_questions.specs.Opened.{Opened}
 use Rattle.units.specs.Limits.{asLimits}
-use Rattle.call_users.specs.Rows.{levelsTold}
+use Rattle.call_answers.specs.Levels.{levelsTold}
 use Rattle.call_users.proofs.User.{levels-found, levels-refused}
 use Rattle.call_users.proofs.levels.Statement.{statement}
 use Rattle.call_users.proofs.levels.Tie as tie

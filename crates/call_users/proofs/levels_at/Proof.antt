@@ -5,7 +5,7 @@ use Rattle.call_level.specs.Times.{levelOf}
 use Rattle.risk_members.proofs.Members.{read-id, read-role}
 use Rattle.rules.specs.Book.{User, nobody}
 use Rattle.units.specs.Limits.{asLimits}
-use Rattle.call_users.specs.Rows.{asRow}
+use Rattle.call_answers.specs.Levels.{asRow}
 use Rattle.call_users.proofs.User.{row-of-house, row-of-shipper, user-in}
 use Rattle.call_users.proofs.levels_at.Statement.{statement}
 use Rattle.call_users.proofs.levels_at.Tie as tie

@@ -1,7 +1,7 @@
 -- `no_users` has 0 in every field. Assumes nothing.
 use Rattle.base.specs.Basics.{refl}
 use Rattle.user_levels.specs.Levels.{noLevels, noUser}
-use Rattle.call_users.specs.Rows.{asRow}
+use Rattle.call_answers.specs.Levels.{asRow}
 use Rattle.call_users.proofs.no_users.Statement.{statement}
 use Rattle.call_users.proofs.no_users.Tie as tie
 

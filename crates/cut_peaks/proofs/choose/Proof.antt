@@ -2,7 +2,7 @@
 use Rattle.base.specs.Basics.{refl, sym, subst, _≤_, mul-le-mul, arith, needs, leb-true}
 use Rattle.cut_worth.specs.Rates.{Rates}
 use Rattle.units.specs.Prices.{asPrices}
-use Rattle.cut_peaks.proofs.Cutting.{sales-behind}
+use Rattle.cut_worth.proofs.Rates.{sales-behind}
 use Rattle.cut_peaks.proofs.Keeping.{chosen-cut, chosen-none, fits-all, kept-cuts, kept-highest, tier-range}
 use Rattle.cut_peaks.proofs.choose.Statement.{statement}
 use Rattle.cut_peaks.proofs.choose.Tie as tie

@@ -1,14 +1,13 @@
 -- `keep`: the worth of the tier and the first of its highest sales, tier two where tier one is worth nothing. Assumes nothing.
-use Rattle.base.specs.Basics.{refl, sym, ap, subst, _∙_, true, false, not, List, ℕ, arith, getD, now, needs}
+use Rattle.base.specs.Basics.{refl, sym, ap, subst, _∙_, true, false, not, List, ℕ, arith, now, needs}
 use Rattle.cut_tiers.proofs.Weights.{rates-range}
 use Rattle.cut_tiers.specs.Tiers.{shortBy}
 use Rattle.cut_worth.specs.Rates.{Rates, lotsIn}
 use Rattle.laws_sales.specs.Parts.{part}
 use Rattle.rules.specs.Shares.{tierWorth}
 use Rattle.cut_peaks.specs.Keeping.{shortOf}
-use Rattle.cut_peaks.specs.declared.Kept.{Kept}
 use Rattle.units.specs.Prices.{asPrices}
-use Rattle.cut_peaks.proofs.Keeping.{kept-tier, never, rates-first, rates-second, same-short}
+use Rattle.cut_peaks.proofs.Keeping.{kept-tier, keptWhere, never, rates-first, rates-second, same-short}
 use Rattle.cut_peaks.proofs.keep.Statement.{statement}
 use Rattle.cut_peaks.proofs.keep.Tie as tie
 
@@ -25,7 +24,7 @@ returns c =
     let worth = c .before .before .before .before .before .worth-of in
     let short = a .short .now in
     let peak = c .before .first-peak in
-    let k : Kept = record { known = true; pvb = getD short 0 false; tvb = getD short 1 false; avb = getD short 2 false; second = false; worth = c .before .before .before .before .before .worth-of .result .0; mwh = c .before .first-peak .result .mwh; place = c .before .first-peak .result .place; heights = c .before .first-peak .result .heights } in
+    let k = keptWhere short false (c .before .before .before .before .before .worth-of .result .0) (c .before .first-peak .result) in
     let one = c .before .before .before .before .before .before .before .rates-of .ensures (shortOf k) refl refl refl in (
       kept-tier (asPrices (a .prices)) k (one ∙ rates-first (asPrices (a .prices)) k refl) (worth .ensures .0) (omega (arith, worth .ensures .1, b .pre .1 .inside))
           (peak .ensures .0) (peak .ensures .1) (λ e. absurd (never e)),
@@ -45,7 +44,7 @@ returns-2 c =
     let worth = c .before .before .before .worth-of2 in
     let short = a .short .now in
     let peak = c .before .first-peak2 in
-    let k : Kept = record { known = true; pvb = getD short 0 false; tvb = getD short 1 false; avb = getD short 2 false; second = true; worth = c .before .before .before .worth-of2 .result .0; mwh = c .before .first-peak2 .result .mwh; place = c .before .first-peak2 .result .place; heights = c .before .first-peak2 .result .heights } in
+    let k = keptWhere short true (c .before .before .before .worth-of2 .result .0) (c .before .first-peak2 .result) in
     let one = c .before .before .before .before .before .before .before .before .before .before .rates-of .ensures (shortOf k) refl refl refl in
     let two = c .before .before .before .before .before .rates-of2 .ensures (λ area. not (shortOf k area)) refl refl refl in
     let first = c .before .before .before .before .before .before .before .before .worth-of .ensures .0 in (

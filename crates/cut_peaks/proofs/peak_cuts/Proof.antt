@@ -1,7 +1,8 @@
 -- `peak_cuts`: each cut is a turn of the tier's shares. Assumes nothing.
 use Rattle.base.specs.Basics.{ℕ, _-_, arith, getD, now}
 use Rattle.cut_worth.specs.Rates.{Sales}
-use Rattle.cut_peaks.proofs.Cutting.{Cutting, cutting-end, cutting-more, cutting-start, sales-behind}
+use Rattle.cut_worth.proofs.Rates.{sales-behind}
+use Rattle.cut_peaks.proofs.Cutting.{Cutting, cutting-end, cutting-more, cutting-start}
 use Rattle.cut_peaks.proofs.Sweeping.{Sweeping, sweep-end, sweep-more, sweep-start}
 use Rattle.cut_peaks.specs.Peaks.{Peaked}
 use Rattle.cut_peaks.proofs.peak_cuts.Statement.{statement}

@@ -2,7 +2,7 @@
 use Rattle.base.specs.Basics.{sym, ℕ, _-_, _<_, arith}
 use borrow.Fn.Kinds.{In}
 use borrow.Fn.PlainCycle.{Measures, is, falls, and}
-use Rattle.cut_worth.proofs.Rates.{worth-none, worth-first, first-worth-le, sales-rest}
+use Rattle.cut_worth.proofs.Rates.{worth-none, worth-first, first-worth-le, sales-behind}
 use Rattle.cut_worth.proofs.worth_from.Reads as worth-from
 use Rattle.cut_worth.proofs.worth_from.Kinds as worth-from-kinds
 use Rattle.cut_worth.proofs.+worth_from.Lts-worth_from as worth-from-lts
@@ -41,7 +41,7 @@ pub +worth-from-spec : {M : Type 1} → statement M
     (λ c. let b = c .before .before .before in omega (arith, b .pre .1 .0 .inside))
     (λ c κs.
     let b = c .before .before .before in
-    (omega (arith, c .before .before .if1 .left), (sales-rest (b .pre .1 .0), b .pre .1 .1)))
+    (omega (arith, c .before .before .if1 .left), (sales-behind (b .pre .1 .0) (omega arith), b .pre .1 .1)))
     -- both together
     (λ c.
     let b = c .before .before .before .before in

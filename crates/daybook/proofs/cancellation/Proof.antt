@@ -6,7 +6,7 @@ use Rattle.daybook.proofs.cancellation.Statement.{statement}
 use Rattle.daybook.proofs.cancellation.Tie as tie
 
 cancellation-requires : tie.Need-cancellation-requires
-cancellation-requires c κs = c .before .before .before .before .before .before .admit-with-sums .ensures .1
+cancellation-requires c κs = c .before .before .before .before .before .before .admit-with-sums .ensures .1 .1
 
 returns : tie.Need-returns
 unfolding matterBy

@@ -7,7 +7,7 @@ use Rattle.daybook.proofs.flag.Statement.{statement}
 use Rattle.daybook.proofs.flag.Tie as tie
 
 flag-requires : tie.Need-flag-requires
-flag-requires c κs = c .before .admit .ensures .1
+flag-requires c κs = c .before .admit .ensures .1 .1
 
 returns : tie.Need-returns
 unfolding idOf

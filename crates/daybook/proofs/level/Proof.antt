@@ -6,7 +6,7 @@ use Rattle.daybook.proofs.level.Statement.{statement}
 use Rattle.daybook.proofs.level.Tie as tie
 
 level-requires : tie.Need-level-requires
-level-requires c κs = λ z. c .before .before .before .before .admit-with-sums .ensures .1 z .summed
+level-requires c κs = λ z. c .before .before .before .before .admit-with-sums .ensures .1 .1 z .summed
 
 returns : tie.Need-returns
 returns c =

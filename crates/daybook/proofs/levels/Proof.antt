@@ -6,7 +6,7 @@ use Rattle.daybook.proofs.levels.Statement.{statement}
 use Rattle.daybook.proofs.levels.Tie as tie
 
 levels-requires : tie.Need-levels-requires
-levels-requires c κs = c .before .before .before .before .before .before .admit-with-sums .ensures .1
+levels-requires c κs = c .before .before .before .before .before .before .admit-with-sums .ensures .1 .1
 
 returns : tie.Need-returns
 unfolding matterBy

@@ -6,7 +6,7 @@ use Rattle.daybook.proofs.show.Statement.{statement}
 use Rattle.daybook.proofs.show.Tie as tie
 
 show-requires : tie.Need-show-requires
-show-requires c κs = λ z. c .before .admit .ensures .1 z .passes
+show-requires c κs = λ z. c .before .admit .ensures .1 .1 z .passes
 
 returns : tie.Need-returns
 returns c =

@@ -6,7 +6,7 @@ use Rattle.daybook.proofs.trade.Statement.{statement}
 use Rattle.daybook.proofs.trade.Tie as tie
 
 trade-requires : tie.Need-trade-requires
-trade-requires c κs = λ z. c .before .before .before .before .before .admit-with-sums .ensures .1 z .parties
+trade-requires c κs = λ z. c .before .before .before .before .before .admit-with-sums .ensures .1 .1 z .parties
 
 returns : tie.Need-returns
 returns c =

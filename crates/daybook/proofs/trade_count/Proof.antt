@@ -8,7 +8,7 @@ use Rattle.daybook.proofs.trade_count.Statement.{statement}
 use Rattle.daybook.proofs.trade_count.Tie as tie
 
 count-requires : tie.Need-count-requires
-count-requires c κs = λ z. c .before .before .before .before .admit-with-sums .ensures .1 z .parties
+count-requires c κs = λ z. c .before .before .before .before .admit-with-sums .ensures .1 .1 z .parties
 
 returns : tie.Need-returns
 unfolding idOf

@@ -6,7 +6,7 @@ use Rattle.daybook.proofs.warning.Statement.{statement}
 use Rattle.daybook.proofs.warning.Tie as tie
 
 warning-requires : tie.Need-warning-requires
-warning-requires c κs = c .before .admit .ensures .1
+warning-requires c κs = c .before .admit .ensures .1 .1
 
 returns : tie.Need-returns
 unfolding matterOf matterBy

@@ -1,6 +1,6 @@
 -- `daybook_raw_levels` stores the levels of all users in a part of 256 places, and leaves another part as it is. Assumes nothing.
 use Rattle.base.specs.Basics.{now, needs}
-use Rattle.call_users.specs.Rows.{levelsTold}
+use Rattle.call_answers.specs.Levels.{levelsTold}
 use Rattle.user_levels.specs.Levels.{AllLevels}
 use Rattle.exports_users.specs.Numbers.{usersNumbers}
 use Rattle.exports.specs.Answers.{isYes}

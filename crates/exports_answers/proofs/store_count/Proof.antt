@@ -1,7 +1,7 @@
 -- `store_count` stores an array of the one number. Assumes nothing.
 use Rattle.base.specs.Basics.{refl, needs}
 use Rattle.exports_answers.specs.Numbers.{countNumbers}
-use Rattle.call_told.specs.Told.{countTold}
+use Rattle.call_answers.specs.Told.{countTold}
 use Rattle.exports_answers.proofs.store_count.Statement.{statement}
 use Rattle.exports_answers.proofs.store_count.Tie as tie
 

@@ -2,7 +2,7 @@
 use Rattle.base.specs.Basics.{refl, ap, _∙_, [], _∷_, ℕ, needs}
 use Rattle.exports_answers.specs.Numbers.{flagNumbers}
 use Rattle.exports_answers.proofs.Bits.{cast-bit}
-use Rattle.call_told.specs.Told.{flagTold}
+use Rattle.call_answers.specs.Told.{flagTold}
 use Rattle.exports_answers.proofs.store_flag.Statement.{statement}
 use Rattle.exports_answers.proofs.store_flag.Tie as tie
 

@@ -2,7 +2,7 @@
 use Rattle.base.specs.Basics.{sym, _∙_, false, map, _-_, arith, getD, length-map, List·getD-map, needs}
 use Rattle.base.proofs.Storing.{Storing, storing-start, storing-next, storing-all}
 use Rattle.exports_answers.specs.Numbers.{bit}
-use Rattle.exports_cancellation.proofs.Bits.{byte-bit}
+use Rattle.exports_answers.proofs.Bits.{cast-bit}
 use Rattle.exports_cancellation.proofs.store_marks.Statement.{statement}
 use Rattle.exports_cancellation.proofs.store_marks.Tie as tie
 
@@ -25,7 +25,7 @@ loop-again c =
     let s = c .before .before in
     let marks = s .args .t2 in
     storing-next (l .inv) _ 0 (omega (arith, s .good, length-map marks bit, c .loop-test .taken))
-    (byte-bit (getD marks (l .i) false) ∙ sym (List·getD-map bit marks (l .i) false))
+    (cast-bit (getD marks (l .i) false) ∙ sym (List·getD-map bit marks (l .i) false))
 
 same-length : tie.Need-same-length Inv-loop μ-loop
 same-length c = c .before .loop .inv .long

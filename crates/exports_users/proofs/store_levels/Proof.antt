@@ -1,6 +1,6 @@
 -- `store_levels` stores the rows of all users. Assumes nothing.
 use Rattle.base.specs.Basics.{refl, needs}
-use Rattle.call_users.specs.Rows.{levelsTold}
+use Rattle.call_answers.specs.Levels.{levelsTold}
 use Rattle.exports_users.specs.Numbers.{usersNumbers}
 use Rattle.exports_users.proofs.store_levels.Statement.{statement}
 use Rattle.exports_users.proofs.store_levels.Tie as tie

@@ -1,6 +1,6 @@
 -- `store_row` stores four numbers, one after the other. Assumes nothing.
 use Rattle.base.specs.Basics.{_≡_, _∙_, _+_, arith, length, length-set, set, needs}
-use Rattle.call_users.specs.Rows.{asRow}
+use Rattle.call_answers.specs.Levels.{asRow}
 use Rattle.exports_users.specs.Numbers.{rowNumbers}
 use Rattle.exports_users.proofs.Rows.{four-stored}
 use Rattle.exports_users.proofs.store_row.Statement.{statement}

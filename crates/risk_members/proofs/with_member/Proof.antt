@@ -1,8 +1,9 @@
 -- `with_member`: what the user has in the area, added to what is held. Assumes nothing.
-use Rattle.base.specs.Basics.{_≡_, ap, _∙_, List, ℕ, _+_, _*_, _<_, arith, length, getD, now, needs}
+use Rattle.base.specs.Basics.{_∙_, _+_, _*_, _<_, arith, length, getD, now, needs}
 use Rattle.book_format.proofs.Passed.{length-usersOf}
 use Rattle.book_format.specs.Book.{tradesOf, usersOf}
 use Rattle.rules.specs.Book.{User, at, bought, nobody, sold}
+use Rattle.risk_user.proofs.Held.{at-sum}
 use Rattle.risk_members.proofs.Members.{Amount, entry-read, position-read}
 use Rattle.risk_members.proofs.Sums.{count-with, sum-fits, sum-with}
 use Rattle.risk_members.proofs.with_member.Statement.{statement}
@@ -26,10 +27,6 @@ entry c = entry-read (now (start c .args .book)) (start c .pre .0) (start c .pre
 position : (c : tie.After-user-at)
     → Amount (getD (c .user-at .result .position) (start c .args .area) (record { 0 = 0 })) (at (user (start c) .position) (start c .args .area))
 position c = position-read (now (start c .args .book)) (start c .pre .0) (start c .pre .2) (start c .pre .3) (c .user-at .result) (c .user-at .ensures)
-
--- a sum at a place that is written otherwise
-at-sum : (sums : List ℕ) (m n : ℕ) → m ≡ n → getD sums m 0 ≡ getD sums n 0
-at-sum sums m n e = ap (λ (k : ℕ). getD sums k 0) e
 
 returns : tie.Need-returns
 returns c id counts t =

@@ -1,7 +1,7 @@
 -- `shares_of` gives one user more the share and the remainder at each turn. Assumes nothing.
 use Rattle.base.specs.Basics.{_-_, arith, pos, length, getD, needs}
 use Rattle.shrinkage.proofs.Division.{Dividing, dividing-start, dividing-more, dividing-end, given-next, own-most}
-use Rattle.shrinkage.proofs.Signs.{kept-parts}
+use Rattle.base.proofs.Signs.{kept-parts}
 use Rattle.shrinkage.proofs.shares_of.Statement.{statement}
 use Rattle.shrinkage.proofs.shares_of.Tie as tie
 

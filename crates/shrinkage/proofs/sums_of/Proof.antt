@@ -1,7 +1,7 @@
 -- `sums_of` adds both sides of one balance more at each turn. Assumes nothing.
 use Rattle.base.specs.Basics.{_-_, arith, pos, length, getD, needs}
 use Rattle.shrinkage.proofs.Balances.{Summing, summing-start, summing-more, summing-no, summing-end}
-use Rattle.shrinkage.proofs.Signs.{kept-parts}
+use Rattle.base.proofs.Signs.{kept-parts}
 use Rattle.shrinkage.proofs.sums_of.Statement.{statement}
 use Rattle.shrinkage.proofs.sums_of.Tie as tie
 

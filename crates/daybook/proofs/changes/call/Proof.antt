@@ -9,14 +9,14 @@ use Rattle.daybook.proofs.changes.call.Statement.{statement}
 use Rattle.daybook.proofs.changes.call.Tie as tie
 
 by-log-requires : tie.Need-by-log-requires
-by-log-requires c κs = λ z. c .before .before .before .before .before .admit-with-sums .ensures .1 z .parties .passes
+by-log-requires c κs = λ z. c .before .before .before .before .before .admit-with-sums .ensures .1 .1 z .parties .passes
 
 call-requires : tie.Need-call-requires
 call-requires c κs =
     let at-by-log = c .before .before .before .before in
     let asked = at-by-log .by-log .ensures in
     let k = at-by-log .before .before .before .before .before .before .admit-with-sums .ensures in
-    λ z. k .1 (asked .before z)
+    λ z. k .1 .1 (asked .before z)
 
 empty-requires : tie.Need-empty-requires
 empty-requires c κs =
@@ -25,7 +25,7 @@ empty-requires c κs =
     let asked = at-by-log .by-log .ensures in
     let k = at-by-log .before .before .before .before .before .before .admit-with-sums .ensures in
     let made = at-call .call in
-    λ e z. emptiable asked (λ n. k .1 (asked .before n) .parties .passes) (accepted _ (made .ensures) z) (made .kept .0) e
+    λ e z. emptiable asked (λ n. k .1 .1 (asked .before n) .parties .passes) (accepted _ (made .ensures) z) (made .kept .0) e
 
 returns : tie.Need-returns
 unfolding matterBy

@@ -14,10 +14,10 @@ use Rattle.daybook.proofs.changes.posting.Statement.{statement}
 use Rattle.daybook.proofs.changes.posting.Tie as tie
 
 by-log-requires : tie.Need-by-log-requires
-by-log-requires c κs = λ z. c .before .before .admit .ensures .1 z .passes
+by-log-requires c κs = λ z. c .before .before .admit .ensures .1 .1 z .passes
 
 posting-requires : tie.Need-posting-requires
-posting-requires c κs = λ z. c .before .before .before .before .admit .ensures .1 (c .before .by-log .ensures .before z) .passes
+posting-requires c κs = λ z. c .before .before .before .before .admit .ensures .1 .1 (c .before .by-log .ensures .before z) .passes
 
 empty-requires : tie.Need-empty-requires
 unfolding only
@@ -25,7 +25,7 @@ empty-requires c κs =
     let admitted = c .before .before .before .before .before .before .before .before .before .admit in
     let asked = c .before .before .before .before .before .before .by-log .ensures in
     let posted = c .before .before .before .before .posting in
-    λ e z. emptiable asked (λ k. admitted .ensures .1 (asked .before k) .passes) (accepted _ (posted .ensures (asLimits (admitted .result .limits))) z) (posted .kept .0) e
+    λ e z. emptiable asked (λ k. admitted .ensures .1 .1 (asked .before k) .passes) (accepted _ (posted .ensures (asLimits (admitted .result .limits))) z) (posted .kept .0) e
 
 returns : tie.Need-returns
 unfolding only matterBy

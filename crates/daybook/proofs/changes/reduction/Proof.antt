@@ -8,13 +8,13 @@ use Rattle.daybook.proofs.changes.reduction.Statement.{statement}
 use Rattle.daybook.proofs.changes.reduction.Tie as tie
 
 by-log-requires : tie.Need-by-log-requires
-by-log-requires c κs = λ z. c .before .before .before .before .before .admit-with-sums .ensures .1 z .parties .passes
+by-log-requires c κs = λ z. c .before .before .before .before .before .admit-with-sums .ensures .1 .1 z .parties .passes
 
 reduction-requires : tie.Need-reduction-requires
 reduction-requires c κs =
     let at-by-log = c .before .before .before .before .before in
     let asked = at-by-log .by-log .ensures in
-    (λ z. at-by-log .before .before .before .before .before .before .admit-with-sums .ensures .1 (asked .before z), asked .fits)
+    (λ z. at-by-log .before .before .before .before .before .before .admit-with-sums .ensures .1 .1 (asked .before z), asked .fits)
 
 returns : tie.Need-returns
 unfolding matterBy

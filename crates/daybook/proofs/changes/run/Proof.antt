@@ -8,12 +8,12 @@ use Rattle.daybook.proofs.changes.run.Statement.{statement}
 use Rattle.daybook.proofs.changes.run.Tie as tie
 
 by-log-requires : tie.Need-by-log-requires
-by-log-requires c κs = λ z. c .before .before .before .before .before .admit-with-sums .ensures .1 z .parties .passes
+by-log-requires c κs = λ z. c .before .before .before .before .before .admit-with-sums .ensures .1 .1 z .parties .passes
 
 run-requires : tie.Need-run-requires
 run-requires c κs =
     let at-by-log = c .before .before .before .before .before in
-    λ z. at-by-log .before .before .before .before .before .before .admit-with-sums .ensures .1 (at-by-log .by-log .ensures .before z)
+    λ z. at-by-log .before .before .before .before .before .before .admit-with-sums .ensures .1 .1 (at-by-log .by-log .ensures .before z)
 
 returns : tie.Need-returns
 unfolding matterBy
@@ -31,7 +31,7 @@ run-requires-2 c κs =
     let at-passed = c .before .before .before .before .before in
     let at-by-log = at-passed .before in
     let asked = at-by-log .by-log .ensures in (
-      λ z. at-by-log .before .before .before .before .before .before .admit-with-sums .ensures .1 (asked .before z),
+      λ z. at-by-log .before .before .before .before .before .before .admit-with-sums .ensures .1 .1 (asked .before z),
       λ z. asked .fits z (not-false _ (at-passed .if1 .left)),
     )
 

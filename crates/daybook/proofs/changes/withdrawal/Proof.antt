@@ -9,13 +9,13 @@ use Rattle.daybook.proofs.changes.withdrawal.Statement.{statement}
 use Rattle.daybook.proofs.changes.withdrawal.Tie as tie
 
 by-log-requires : tie.Need-by-log-requires
-by-log-requires c κs = λ z. c .before .before .before .before .admit-with-sums .ensures .1 z .parties .passes
+by-log-requires c κs = λ z. c .before .before .before .before .admit-with-sums .ensures .1 .1 z .parties .passes
 
 withdrawal-requires : tie.Need-withdrawal-requires
 withdrawal-requires c κs =
     let at-by-log = c .before .before .before .before in
     let asked = at-by-log .by-log .ensures in
-    (λ z. at-by-log .before .before .before .before .before .admit-with-sums .ensures .1 (asked .before z) .parties, λ z. asked .fits z refl)
+    (λ z. at-by-log .before .before .before .before .before .admit-with-sums .ensures .1 .1 (asked .before z) .parties, λ z. asked .fits z refl)
 
 returns : tie.Need-returns
 unfolding given matterBy

@@ -1,6 +1,6 @@
 -- `daybook_raw_flag` stores whether the user is flagged in a part of one place, and leaves another part as it is. Assumes nothing.
 use Rattle.base.specs.Basics.{now, needs}
-use Rattle.call_told.specs.Told.{flagTold}
+use Rattle.call_answers.specs.Told.{flagTold}
 use Rattle.rights.specs.Trades.{Told}
 use Rattle.exports_answers.specs.Numbers.{flagNumbers}
 use Rattle.exports.specs.Answers.{isYes}

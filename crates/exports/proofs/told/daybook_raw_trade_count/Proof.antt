@@ -1,6 +1,6 @@
 -- `daybook_raw_trade_count` stores how many trades the user may see in a part of one place, and leaves another part as it is. Assumes nothing.
 use Rattle.base.specs.Basics.{now, needs}
-use Rattle.call_told.specs.Told.{countTold}
+use Rattle.call_answers.specs.Told.{countTold}
 use Rattle.rights.specs.Trades.{Told}
 use Rattle.exports_answers.specs.Numbers.{countNumbers}
 use Rattle.exports.specs.Answers.{isYes}

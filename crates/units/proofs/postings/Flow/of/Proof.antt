@@ -1,54 +1,12 @@
 -- `Flow::of`: an amount of 0 or more is itself; of one below 0 the function takes −1 − amount, which is a natural below 2^63, and adds 1.
 -- Assumes nothing.
-use Rattle.base.specs.Basics.{_≡_, refl, sym, _∙_, ap, subst, Bool, true, false, ℕ, _+_, _<_, _^_, arith, T, ℤ, pos, negsuc, natAbs, _-ℤ_, ltb-true}
-use lib.Signed.{ltZ, nonNeg}
+use Rattle.base.specs.Basics.{sym, ap, subst, arith, T, ℤ, natAbs}
+use lib.Signed.{nonNeg}
 use mir.Syntax.{w64}
-use mir.Val.{Fits, SFits, toZ, ofZ}
-use mir.ValLaws.{toZ-ofZ}
-use Rattle.base.specs.Parts.{posPart, negPart}
-use Rattle.base.proofs.Linear.{eq-parts, parts-sub}
+use mir.Val.{Fits, SFits}
+use Rattle.base.proofs.Signs.{below, kept-again, not-below}
 use Rattle.units.proofs.postings.Flow.of.Statement.{statement}
 use Rattle.units.proofs.postings.Flow.of.Tie as tie
-
--- an amount below 0 and what the machine makes of −1 − amount
-record Below (z : ℤ) : Type 0 where
-  n : ℕ
-  small : n < 2 ^ 63
-  above-zero : posPart z ≡ 0
-  below-zero : negPart z ≡ n + 1
-  kept : negsuc 0 -ℤ toZ w64 (ofZ w64 z) ≡ pos n
-
--- an amount of 0 or more
-record NotBelow (z : ℤ) : Type 0 where
-  small : posPart z < 2 ^ 63
-  below-zero : negPart z ≡ 0
-  kept : toZ w64 (ofZ w64 z) ≡ pos (posPart z)
-
--- the test that the machine makes is a test of the amount
-tested : (z : ℤ) → SFits w64 z → {b : Bool} → ltZ (toZ w64 (ofZ w64 z)) (pos 0) ≡ b → ltZ z (pos 0) ≡ b
-tested z f {b} h = subst (λ (y : ℤ). ltZ y (pos 0) ≡ b) (toZ-ofZ w64 z f) h
-
-minus-negsuc : (n : ℕ) → negsuc 0 -ℤ negsuc n ≡ pos n
-unfolding posPart negPart
-minus-negsuc n = eq-parts (negsuc 0 -ℤ negsuc n) (pos n) (omega (arith, parts-sub (negsuc 0) (negsuc n)))
-
-below : (z : ℤ) → SFits w64 z → ltZ (toZ w64 (ofZ w64 z)) (pos 0) ≡ true → Below z
-unfolding posPart negPart
-below (pos n) f h = absurd (omega (arith, ltb-true n 0 (tested (pos n) f h)))
-below (negsuc n) f h =
-    record { n = n; small = f .sfits; above-zero = refl; below-zero = omega arith; kept = ap (λ (y : ℤ). negsuc 0 -ℤ y) (toZ-ofZ w64 (negsuc n) f) ∙ minus-negsuc n }
-
-not-below : (z : ℤ) → SFits w64 z → ltZ (toZ w64 (ofZ w64 z)) (pos 0) ≡ false → NotBelow z
-unfolding posPart negPart
-not-below (pos n) f h = record { small = f .sfits; below-zero = refl; kept = toZ-ofZ w64 (pos n) f }
-not-below (negsuc n) f h =
-    let t : true ≡ false = tested (negsuc n) f h in
-    let e : _≡_ {A = ℕ} 0 1 = cc in
-    absurd (omega arith)
-
--- −1 − amount after the machine kept it
-kept-again : (z : ℤ) (b : Below z) → toZ w64 (ofZ w64 (negsuc 0 -ℤ toZ w64 (ofZ w64 z))) ≡ pos (b .n)
-kept-again z b = ap (λ (y : ℤ). toZ w64 (ofZ w64 y)) (b .kept) ∙ toZ-ofZ w64 (pos (b .n)) (record { sfits = b .small })
 
 sub-t4 : tie.Need-sub-t4
 sub-t4 c =

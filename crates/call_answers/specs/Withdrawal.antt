@@ -1,6 +1,6 @@
 -- The answer of a withdrawal as the rules' answer. Assumes nothing.
 use Rattle.rules.specs.Calls.{Answer}
-use Rattle.call_logged.specs.declared.WithdrawalAnswer.{WithdrawalAnswer}
+use Rattle.call_answers.specs.declared.WithdrawalAnswer.{WithdrawalAnswer}
 
 -- number, MWh and worth; a field that a withdrawal does not have is 0
 abbrev pub withdrawalOf : WithdrawalAnswer → Answer

@@ -1,9 +1,9 @@
--- The answer of the definitions that the code's answer is. Assumes nothing.
-use Rattle.base.specs.Basics.{map}
+-- The levels of all users that the code's answer is. Assumes nothing.
+use mathlib.Core.List.{map}
 use Rattle.risk_user.specs.States.{stateOf}
 use Rattle.user_levels.specs.Levels as rows
-use Rattle.call_users.specs.declared.LevelsAnswer.{LevelsAnswer}
-use Rattle.call_users.specs.declared.UserLevels.{UserLevels}
+use Rattle.call_answers.specs.declared.LevelsAnswer.{LevelsAnswer}
+use Rattle.call_answers.specs.declared.UserLevels.{UserLevels}
 
 -- by its fields
 unfoldable pub asRow : UserLevels → rows.UserLevels

@@ -1,2 +1,0 @@
--- The answer of the levels of all users.
-pub mod Rows

@@ -1,2 +1,0 @@
--- A yes or no as a number.
-mod Bits
