@@ -43,6 +43,7 @@ kept-elsewhere {f} {k} {ns} {areas} {from} {to} ms e p =
         before = λ i h l. omega (arith, amounts i h (omega (arith, q .ends)), q .before i h l);
         here = λ l. omega (arith, amounts (k .place) (q .starts) l, q .here l);
       };
+      below = record { most = λ i h l. omega (arith, stands i h l, p .below .most i h l); few = p .below .few };
       first-none = λ t. ap (λ (xs : List ℕ). tierWorth (lotsIn (ratesFor f (shortOf k)) xs (part from to areas))) e ∙ p .first-none t;
     }
 
@@ -110,6 +111,7 @@ module _ {f : Prices} {short : List Bool} {asked : ℕ} {ns areas : List ℕ} {f
                 let e : getD ms end 0 ≡ getD ns end 0 = omega (arith, stands end (omega (arith, q .starts)) l) in
                 omega (arith, p .here l, ap (λ (n : ℕ). cond (belongs end) n 0) e);
           };
+          below = record { most = λ i h l. omega (arith, stands i h l, p .kept .below .most i h l); few = p .kept .below .few };
           first-none = λ e.
               omega (
                 arith,

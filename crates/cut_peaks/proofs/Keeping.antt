@@ -1,26 +1,29 @@
 -- What is kept of a seller is that of its sales; the cuts of its highest sales are those of both tiers. Assumes nothing.
-use Rattle.base.specs.Basics.{_≡_, refl, sym, ap, subst, _∙_, inl, inr, Bool, true, false, not, _||_, List, ℕ, zero, suc, _*_, _-_, _≤_, _<_, arith}
-use Rattle.base.specs.Basics.{T, eqb, length, getD, ext-getD, length-sets, sets}
+use Rattle.base.specs.Basics.{_≡_, refl, sym, ap, subst, _∙_, inl, inr, Bool, true, false, cond, not, _||_, List, [], _∷_, ℕ, zero, suc, _*_, _-_, _≤_, _<_, arith}
+use Rattle.base.specs.Basics.{T, min, eqb, ltb, lt-ltb, length, getD, ext-getD, length-sets, sets}
 use Rattle.base.proofs.Linear.{by-order}
-use Rattle.base.proofs.Tests.{or-true}
+use Rattle.base.proofs.Tests.{by-case, of-three, or-true}
 use Rattle.cut_shares.proofs.Cases.{tier-none}
 use Rattle.cut_shares.specs.Cuts.{added}
 use Rattle.cut_tiers.proofs.After.{cuts-of-same}
 use Rattle.cut_tiers.proofs.Tiers.{both-tiers, none-untouched, one-tier, together-first}
 use Rattle.cut_tiers.proofs.Weights.{rates-range}
 use Rattle.cut_tiers.specs.Tiers.{NoCuts, cutsOf, ratesFor, shortBy}
-use Rattle.cut_worth.specs.Rates.{Rates, Sales, lotsIn}
+use Rattle.cut_worth.specs.Rates.{Rates, Sales, lotsIn, rated}
 use Rattle.fields.proofs.Sets.{getD-apart}
+use Rattle.laws_sales.proofs.Ranges.{cond-le}
 use Rattle.laws_sales.proofs.Parts.{part-here, part-length, part-most, part-stored}
 use Rattle.laws_sales.specs.Parts.{part}
 use Rattle.rules.specs.Areas.{Prices}
 use Rattle.rules.specs.Reduction.{together}
 use Rattle.rules.specs.Shares.{tierCuts, tierWorth}
 use Rattle.units.specs.Prices.{InRange}
-use Rattle.cut_peaks.specs.Keeping.{Chosen, Fits, KeptFor, SameShort, shortOf, tierRates}
+use Rattle.cut_peaks.specs.Keeping.{Below, bounded, heightIn, loweredTo, tierHeight, Chosen, Fits, KeptFor, SameShort, shortOf, tierRates}
 use Rattle.cut_peaks.specs.Peaks.{Highest, NextPeak, NoneCut, PeakCuts, Peaked, amountAt, tierOf}
 use Rattle.cut_peaks.specs.declared.Choice.{Choice}
+use Rattle.cut_peaks.specs.declared.Heights.{Heights}
 use Rattle.cut_peaks.specs.declared.Kept.{Kept}
+use Rattle.cut_peaks.specs.declared.Peak.{Peak}
 
 pub never : false ≡ true → ⊥
 never e = subst (λ (t : Bool). T (not t)) e tt
@@ -47,6 +50,118 @@ differ-no one other e f = e ∙ sym f
 
 -- ---- a look through the sales
 
+-- the largest amount of the tier's areas is one that none of its sales stands above
+cond-up : (c : Bool) (n m : ℕ) → n ≤ m → cond c n 0 ≤ cond c m 0
+cond-up true n m h = h
+cond-up false n m h = omega arith
+
+pub tier-highest : (h : Heights) (rates : List ℕ) {ns areas : List ℕ} {from to : ℕ} → Sales ns areas from to → Below h ns areas from to → {mwh : ℕ} → mwh ≡ tierHeight h rates
+    → Highest rates ns areas from to mwh
+tier-highest h rates {ns} {areas} {from} {to} s b {mwh} e =
+    let in-area : (area : ℕ) → area < 3 → cond (rated rates area) (heightIn h area) 0 ≤ mwh
+    = of-three (λ (area : ℕ). cond (rated rates area) (heightIn h area) 0 ≤ mwh) (omega arith) (omega arith) (omega arith) in
+    record {
+      some = omega arith;
+      few =
+          omega (
+            arith,
+            cond-le (rated rates 0) (h .pvb),
+            cond-le (rated rates 1) (h .tvb),
+            cond-le (rated rates 2) (h .avb),
+            b .few 0 (omega arith),
+            b .few 1 (omega arith),
+            b .few 2 (omega arith),
+          );
+      most = λ i l m.
+          let area = getD areas i 0 in
+          omega (arith, cond-up (rated rates area) (getD ns i 0) (heightIn h area) (b .most i l m), in-area area (s .area-most i l m));
+    }
+
+-- each sale is one of an area
+pub below-seen : {h : Heights} {ns areas : List ℕ} {from to : ℕ} → Sales ns areas from to → Highest (1 ∷ 0 ∷ 0 ∷ []) ns areas from to (h .pvb) → Highest (0 ∷ 1 ∷ 0 ∷ []) ns areas from to (h .tvb)
+    → Highest (0 ∷ 0 ∷ 1 ∷ []) ns areas from to (h .avb) → Below h ns areas from to
+below-seen {h} {ns} {areas} {from} {to} s p t a =
+    record {
+      most = λ i l m.
+          of-three
+          (λ (area : ℕ).
+          cond (rated (1 ∷ 0 ∷ 0 ∷ []) area) (getD ns i 0) 0 ≤ h .pvb → cond (rated (0 ∷ 1 ∷ 0 ∷ []) area) (getD ns i 0) 0 ≤ h .tvb
+          → cond (rated (0 ∷ 0 ∷ 1 ∷ []) area) (getD ns i 0) 0 ≤ h .avb → getD ns i 0 ≤ heightIn h area)
+          (λ x y z. x) (λ x y z. y) (λ x y z. z) (getD areas i 0) (s .area-most i l m) (p .most i l m) (t .most i l m) (a .most i l m);
+      few = of-three (λ (area : ℕ). heightIn h area ≤ 100000) (p .few) (t .few) (a .few);
+    }
+
+-- heights that are lowered where an area has a rate
+pub not-lowered : (rate n m : ℕ) → rate ≡ 0 → n ≡ cond (ltb 0 rate) m n
+not-lowered rate n m e = rw e refl
+
+pub lowered-there : (rate n m : ℕ) {l : ℕ} → 0 < rate → l ≡ m → l ≡ cond (ltb 0 rate) m n
+lowered-there rate n m h e = rw (lt-ltb 0 rate h) e
+
+abbrev by-area : ℕ → ℕ → ℕ → Heights
+by-area p t a = record { pvb = p; tvb = t; avb = a }
+
+pub lowered-each : {h : Heights} {p t a : ℕ} → p ≡ h .pvb → t ≡ h .tvb → a ≡ h .avb → by-area p t a ≡ h
+lowered-each {h} {p} {t} {a} e f g = ap (λ (x : ℕ). by-area x t a) e ∙ ap (λ (x : ℕ). by-area (h .pvb) x a) f ∙ ap (by-area (h .pvb) (h .tvb)) g
+
+-- where no sale of the tier stands at an amount
+min-in : (c : Bool) (n h mwh : ℕ) → n ≤ h → cond c n 0 < mwh → n ≤ cond c (min h (mwh - 1)) h
+min-in true n h mwh l m = omega arith
+min-in false n h mwh l m = l
+
+min-le : (c : Bool) (h most : ℕ) → cond c (min h most) h ≤ h
+min-le true h most = omega arith
+min-le false h most = omega arith
+
+pub below-lowered : {h : Heights} {rates ns areas : List ℕ} {mwh from to place : ℕ} → Sales ns areas from to → Below h ns areas from to → NextPeak rates ns areas mwh from to place → to ≤ place
+    → {low : Heights} → low ≡ loweredTo h rates (mwh - 1) → Below low ns areas from to
+below-lowered {h} {rates} {ns} {areas} {mwh} {from} {to} s b p end e =
+    subst (λ (x : Heights). Below x ns areas from to) (sym e)
+    (record {
+      most = λ i l m.
+          of-three
+          (λ (area : ℕ).
+          getD ns i 0 ≤ heightIn h area → cond (rated rates area) (getD ns i 0) 0 < mwh → getD ns i 0 ≤ heightIn (loweredTo h rates (mwh - 1)) area)
+          (min-in (rated rates 0) (getD ns i 0) (h .pvb) mwh) (min-in (rated rates 1) (getD ns i 0) (h .tvb) mwh) (min-in (rated rates 2) (getD ns i 0) (h .avb) mwh)
+          (getD areas i 0) (s .area-most i l m) (b .most i l m) (p .before i l (omega arith));
+      few =
+          of-three (λ (area : ℕ). heightIn (loweredTo h rates (mwh - 1)) area ≤ 100000)
+          (omega (arith, min-le (rated rates 0) (h .pvb) (mwh - 1), b .few 0 (omega arith)))
+          (omega (arith, min-le (rated rates 1) (h .tvb) (mwh - 1), b .few 1 (omega arith)))
+          (omega (arith, min-le (rated rates 2) (h .avb) (mwh - 1), b .few 2 (omega arith)));
+    })
+
+-- no sale stands above 100,000 MWh
+pub below-all : {ns areas : List ℕ} {from to : ℕ} → Sales ns areas from to → Below bounded ns areas from to
+below-all {ns} {areas} s =
+    record {
+      most = λ i l m.
+          let h = s .standing-most i l m in
+          of-three (λ (area : ℕ). getD ns i 0 ≤ heightIn bounded area) h h h (getD areas i 0) (s .area-most i l m);
+      few = of-three (λ (area : ℕ). heightIn bounded area ≤ 100000) (omega arith) (omega arith) (omega arith);
+    }
+
+pub below-known : {f : Prices} {k : Kept} {ns areas : List ℕ} {from to : ℕ} → Sales ns areas from to → (k .known ≡ true → KeptFor f k ns areas from to) → {h : Heights}
+    → (k .known ≡ true → h ≡ k .heights) × (k .known ≡ false → h ≡ bounded) → Below h ns areas from to
+below-known {f} {k} {ns} {areas} {from} {to} s p e =
+    by-case (k .known) (λ t. subst (λ (x : Heights). Below x ns areas from to) (sym (e .0 t)) (p t .below))
+    (λ t. subst (λ (x : Heights). Below x ns areas from to) (sym (e .1 t)) (below-all s))
+
+-- what is kept of a tier, by its worth and the first of its highest sales
+abbrev pub keptWhere : List Bool → Bool → ℕ → Peak → Kept
+keptWhere short second worth peak =
+    record {
+      known = true;
+      pvb = getD short 0 false;
+      tvb = getD short 1 false;
+      avb = getD short 2 false;
+      second = second;
+      worth = worth;
+      mwh = peak .mwh;
+      place = peak .place;
+      heights = peak .heights;
+    }
+
 -- the first of the highest sales
 pub peaked-first : {rates ns areas : List ℕ} {from to mwh place : ℕ} → Highest rates ns areas from to mwh → NextPeak rates ns areas mwh from to place → Peaked rates ns areas from to place mwh
 peaked-first h n =
@@ -64,12 +179,13 @@ module _ (f : Prices) (k : Kept) where
 
   -- what was seen is what is kept
   pub kept-tier : {rates ns areas : List ℕ} {from to : ℕ} → rates ≡ tierRates f k → k .worth ≡ tierWorth (lotsIn rates (part from to ns) (part from to areas)) → k .worth ≤ 2560000000000
-      → Peaked rates ns areas from to (k .place) (k .mwh) → (k .second ≡ true → tierWorth (lotsIn (ratesFor f (shortOf k)) (part from to ns) (part from to areas)) ≡ 0) → KeptFor f k ns areas from to
-  kept-tier {rates} {ns} {areas} {from} {to} e w m p z =
+      → Peaked rates ns areas from to (k .place) (k .mwh) → Below (k .heights) ns areas from to → (k .second ≡ true → tierWorth (lotsIn (ratesFor f (shortOf k)) (part from to ns) (part from to areas)) ≡ 0) → KeptFor f k ns areas from to
+  kept-tier {rates} {ns} {areas} {from} {to} e w m p b z =
       record {
         worth-is = w ∙ ap (λ (rs : List ℕ). tierWorth (lotsIn rs (part from to ns) (part from to areas))) e;
         worth-most = m;
         peaked = subst (λ (rs : List ℕ). Peaked rs ns areas from to (k .place) (k .mwh)) e p;
+        below = b;
         first-none = z;
       }
 

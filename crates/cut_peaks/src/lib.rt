@@ -2,14 +2,15 @@
 // So a seller's next cuts are known from the place of the next of them, without asking every sale again: a pass over all of them is made
 // once for each MWh that the highest lose, not once for each reduction.
 use units::Prices;
-ghost use mathlib.Core.Bool.{true, false};
+ghost use mathlib.Core.Bool.{true, false, cond};
 ghost use mathlib.Core.Path.{_≡_};
-ghost use Prim.Native.Nat.{_≤_, _<_, max};
+ghost use Prim.Native.Nat.{_≤_, _<_, max, min};
+ghost use lib.Dec.{ltb};
 ghost use lib.ListN.{getD};
-ghost use Rattle.cut_peaks.specs.Keeping.{Chosen, KeptFor, SameShort, sweptTo, tierRates};
+ghost use Rattle.cut_peaks.specs.Keeping.{Below, bounded, Chosen, KeptFor, loweredTo, SameShort, sweptTo, tierHeight, tierRates};
 ghost use Rattle.units.specs.Prices.{asPrices, InRange};
 ghost use Rattle.cut_worth.specs.Rates.{Sales, Rates};
-ghost use Rattle.cut_peaks.specs.Peaks.{amountAt, Highest, NextPeak, NoneCut, PeakCuts};
+ghost use Rattle.cut_peaks.specs.Peaks.{amountAt, Highest, NextPeak, NoneCut, PeakCuts, Peaked};
 
 // ---- the highest sales
 
@@ -76,6 +77,122 @@ fn next_peak(
     i
 }
 
+// ---- the highest sales by area
+
+// For each area an amount that no sale of a seller in it stands above.
+pub struct Heights {
+    pub pvb: u64,
+    pub tvb: u64,
+    pub avb: u64,
+}
+
+// For each area what the highest of the sales from..to in it stands at, at least 1.
+fn heights_of(standing: &[u64; 256], areas: &[u8; 256], from: usize, to: usize) -> Heights
+    requires { ⌜ Sales (now standing) (now areas) from to ⌝ }
+    ensures { λ r. ⌜ Below r (now (standing .entry)) (now (areas .entry)) from to ⌝ }
+{
+    let pvb = highest(standing, areas, &[1, 0, 0], from, to);
+    let tvb = highest(standing, areas, &[0, 1, 0], from, to);
+    let avb = highest(standing, areas, &[0, 0, 1], from, to);
+    Heights {
+        pvb: pvb,
+        tvb: tvb,
+        avb: avb,
+    }
+}
+
+// An amount of an area with a rate: 0 where it does not belong to the tier.
+fn in_tier(mwh: u64, rate: u64) -> u64
+    ensures { λ r. ⌜ r ≡ cond (ltb 0 rate) mwh 0 ⌝ }
+{
+    if rate == 0 {
+        return 0;
+    }
+    mwh
+}
+
+// An amount that no sale of the tier stands above, at least 1.
+fn tier_height(heights: Heights, rates: &[u64; 3]) -> u64
+    ensures { λ r. ⌜ r ≡ tierHeight heights (now (rates .entry)) ⌝ }
+{
+    let one = larger(1, in_tier(heights.pvb, rates[0]));
+    let two = larger(one, in_tier(heights.tvb, rates[1]));
+    larger(two, in_tier(heights.avb, rates[2]))
+}
+
+// The lesser of two amounts where an area has a rate; else the first.
+fn lowered_at(mwh: u64, rate: u64, most: u64) -> u64
+    ensures { λ r. ⌜ r ≡ cond (ltb 0 rate) (min mwh most) mwh ⌝ }
+{
+    if rate == 0 {
+        return mwh;
+    }
+    if mwh < most {
+        return mwh;
+    }
+    most
+}
+
+// Heights of which those of a tier's areas are at most an amount.
+fn lowered(heights: Heights, rates: &[u64; 3], most: u64) -> Heights
+    ensures { λ r. ⌜ r ≡ loweredTo heights (now (rates .entry)) most ⌝ }
+{
+    Heights {
+        pvb: lowered_at(heights.pvb, rates[0], most),
+        tvb: lowered_at(heights.tvb, rates[1], most),
+        avb: lowered_at(heights.avb, rates[2], most),
+    }
+}
+
+// The first of the highest sales in a tier, what they stand at, and amounts that no sale stands above.
+pub struct Peak {
+    pub mwh: u64,
+    pub place: usize,
+    pub heights: Heights,
+}
+
+// The first of the highest sales from..to in the tier: at the height that is known; or where none of them stands at it, one below, since
+// those that stood there have lost an MWh each; or else after a look through all of them.
+fn first_peak(
+    standing: &[u64; 256],
+    areas: &[u8; 256],
+    rates: &[u64; 3],
+    from: usize,
+    to: usize,
+    heights: Heights,
+) -> Peak
+    requires { ⌜ Sales (now standing) (now areas) from to × (from ≤ to) × Below heights (now standing) (now areas) from to ⌝ }
+    ensures { λ r. ⌜ Peaked (now (rates .entry)) (now (standing .entry)) (now (areas .entry)) from to (r .place) (r .mwh) × Below (r .heights) (now (standing .entry)) (now (areas .entry)) from to ⌝ }
+{
+    let height = tier_height(heights, rates);
+    let first = next_peak(standing, areas, rates, height, from, to);
+    if first < to {
+        return Peak {
+            mwh: height,
+            place: first,
+            heights: heights,
+        };
+    }
+    let lower = lowered(heights, rates, height - 1);
+    let below = tier_height(lower, rates);
+    let second = next_peak(standing, areas, rates, below, from, to);
+    if second < to {
+        return Peak {
+            mwh: below,
+            place: second,
+            heights: lower,
+        };
+    }
+    let seen = heights_of(standing, areas, from, to);
+    let mwh = tier_height(seen, rates);
+    let place = next_peak(standing, areas, rates, mwh, from, to);
+    Peak {
+        mwh: mwh,
+        place: place,
+        heights: seen,
+    }
+}
+
 // ---- their cuts
 
 // The next of the highest sales behind those that were cut, and what they lost.
@@ -116,7 +233,8 @@ fn peak_cuts(
 // ---- what is kept of a seller
 
 // Of a seller, where anything is known of it: in which areas its position is negative; whether its sales lose from tier two, tier one being
-// worth nothing; what that tier is worth, what its highest sales stand at, and the place of the next of them.
+// worth nothing; what that tier is worth, what its highest sales stand at, and the place of the next of them; and for each area what none
+// of its sales stands above, whatever the tier.
 pub struct Kept {
     pub known: bool,
     pub pvb: bool,
@@ -126,6 +244,7 @@ pub struct Kept {
     pub worth: u64,
     pub mwh: u64,
     pub place: usize,
+    pub heights: Heights,
 }
 
 impl Kept {
@@ -142,6 +261,11 @@ impl Kept {
             worth: 0,
             mwh: 0,
             place: 0,
+            heights: Heights {
+                pvb: 0,
+                tvb: 0,
+                avb: 0,
+            },
         }
     }
 
@@ -167,7 +291,8 @@ fn rates_kept(kept: Kept, prices: Prices) -> [u64; 3]
     cut_tiers::rates_of(kept.pvb, kept.tvb, kept.avb, prices)
 }
 
-// Looks through the sales from..to of a seller whose position is negative where `short` says so.
+// What is kept of the sales from..to of a seller whose position is negative where `short` says so, and of whose sales none stands above
+// the heights.
 fn keep(
     standing: &[u64; 256],
     areas: &[u8; 256],
@@ -175,8 +300,9 @@ fn keep(
     prices: Prices,
     from: usize,
     to: usize,
+    heights: Heights,
 ) -> Kept
-    requires { ⌜ InRange (asPrices prices) × Sales (now standing) (now areas) from to × (from ≤ to) ⌝ }
+    requires { ⌜ InRange (asPrices prices) × Sales (now standing) (now areas) from to × (from ≤ to) × Below heights (now standing) (now areas) from to ⌝ }
     ensures { λ r. ⌜ KeptFor (asPrices prices) r (now (standing .entry)) (now (areas .entry)) from to × SameShort r (now (short .entry)) ⌝ }
 {
     let pvb = short[0];
@@ -185,8 +311,8 @@ fn keep(
     let one = cut_tiers::rates_of(pvb, tvb, avb, prices);
     let worth = cut_worth::worth_of(standing, areas, &one, from, to);
     if 0 < worth.0 {
-        let mwh = highest(standing, areas, &one, from, to);
-        let place = next_peak(standing, areas, &one, mwh, from, to);
+        let peak = first_peak(standing, areas, &one, from, to, heights);
+        let seen = peak.heights;
         return Kept {
             known: true,
             pvb: pvb,
@@ -194,14 +320,15 @@ fn keep(
             avb: avb,
             second: false,
             worth: worth.0,
-            mwh: mwh,
-            place: place,
+            mwh: peak.mwh,
+            place: peak.place,
+            heights: seen,
         };
     }
     let two = cut_tiers::rates_of(!pvb, !tvb, !avb, prices);
     let other = cut_worth::worth_of(standing, areas, &two, from, to);
-    let mwh = highest(standing, areas, &two, from, to);
-    let place = next_peak(standing, areas, &two, mwh, from, to);
+    let peak = first_peak(standing, areas, &two, from, to, heights);
+    let seen = peak.heights;
     Kept {
         known: true,
         pvb: pvb,
@@ -209,8 +336,9 @@ fn keep(
         avb: avb,
         second: true,
         worth: other.0,
-        mwh: mwh,
-        place: place,
+        mwh: peak.mwh,
+        place: peak.place,
+        heights: seen,
     }
 }
 
@@ -243,7 +371,21 @@ fn serves(kept: Kept, short: &[bool; 3], to: usize) -> bool
     kept.known
 }
 
-// What is kept, where it serves; else what a look through the sales gives.
+// Amounts that no sale stands above: those that are kept, or where nothing is known what every sale is bounded by.
+fn bounds(kept: Kept) -> Heights
+    ensures { λ r. ⌜ (kept .known ≡ true → r ≡ kept .heights) × (kept .known ≡ false → r ≡ bounded) ⌝ }
+{
+    if kept.known {
+        return kept.heights;
+    }
+    Heights {
+        pvb: 100000,
+        tvb: 100000,
+        avb: 100000,
+    }
+}
+
+// What is kept, where it serves; else what the sales are found to be.
 fn current(
     standing: &[u64; 256],
     areas: &[u8; 256],
@@ -260,7 +402,8 @@ fn current(
     if serves(kept, short, to) {
         return kept;
     }
-    keep(standing, areas, short, prices, from, to)
+    let heights = bounds(kept);
+    keep(standing, areas, short, prices, from, to, heights)
 }
 
 // ---- the cuts of a reduction
