@@ -1,8 +1,8 @@
 -- `heights_of`: each sale is one of an area. Assumes nothing.
 use Rattle.base.specs.Basics.{needs}
 use Rattle.cut_peaks.proofs.Keeping.{below-seen}
-use Rattle.cut_peaks.proofs.heights_of.Statement.{statement}
-use Rattle.cut_peaks.proofs.heights_of.Tie as tie
+use Rattle.cut_peaks.proofs.peaks.heights_of.Statement.{statement}
+use Rattle.cut_peaks.proofs.peaks.heights_of.Tie as tie
 
 returns : tie.Need-returns
 returns c =

@@ -1,8 +1,8 @@
 -- `lowered`: area by area. Assumes nothing.
 use Rattle.base.specs.Basics.{needs}
 use Rattle.cut_peaks.proofs.Keeping.{lowered-each}
-use Rattle.cut_peaks.proofs.lowered.Statement.{statement}
-use Rattle.cut_peaks.proofs.lowered.Tie as tie
+use Rattle.cut_peaks.proofs.peaks.lowered.Statement.{statement}
+use Rattle.cut_peaks.proofs.peaks.lowered.Tie as tie
 
 returns : tie.Need-returns
 returns c = lowered-each (c .before .before .before .before .lowered-at .ensures) (c .before .before .lowered-at2 .ensures) (c .lowered-at3 .ensures)

@@ -1,8 +1,8 @@
 -- `lowered_at`: an area without a rate is not of the tier. Assumes nothing.
 use Rattle.base.specs.Basics.{min, arith}
 use Rattle.cut_peaks.proofs.Keeping.{lowered-there, not-lowered}
-use Rattle.cut_peaks.proofs.lowered_at.Statement.{statement}
-use Rattle.cut_peaks.proofs.lowered_at.Tie as tie
+use Rattle.cut_peaks.proofs.peaks.lowered_at.Statement.{statement}
+use Rattle.cut_peaks.proofs.peaks.lowered_at.Tie as tie
 
 returns-2 : tie.Need-returns-2
 returns-2 c = let a = c .before .before .args in lowered-there (a .rate) (a .mwh) (min (a .mwh) (a .most)) (omega (arith, c .before .if1 .left)) (omega (arith, c .if2 .taken))

@@ -1,8 +1,8 @@
 -- `first_peak`: no sale of the tier stands above the amounts of its areas. Assumes nothing.
 use Rattle.base.specs.Basics.{arith, now, needs}
 use Rattle.cut_peaks.proofs.Keeping.{below-lowered, peaked-first, tier-highest}
-use Rattle.cut_peaks.proofs.first_peak.Statement.{statement}
-use Rattle.cut_peaks.proofs.first_peak.Tie as tie
+use Rattle.cut_peaks.proofs.peaks.first_peak.Statement.{statement}
+use Rattle.cut_peaks.proofs.peaks.first_peak.Tie as tie
 
 returns : tie.Need-returns
 returns c =
