@@ -134,7 +134,8 @@ module _ {limits : Limits} {f : Prices} {s sums ss area_codes bs : List ℕ} (q 
             subst (λ (g : Prices). Going limits (book_of s) (reduced limits b user).book ms qs (set mid place (cond left (target_of_place limits g (users_of s) sums qs place) 0)) (set es place left)) (sym q.risk.prices_are)
             (turn_going q.risk.opened.accepted.sound h place (member_in q inside now) (left_room q inside now cs ms taken) (members_few q inside now) (rw (sf, se) at own)
             (rw (sf, se) at lp) (rw (sf, se) at lo) is_due q.risk.sums_are.twelve q.sales (rw (sf, se) at moved)
-            (subst (λ (g : Prices). LookedAgain (target_of_place limits g (users_of s) sums qs) es (part (starts (borne_book (book_of s)) place) (starts (borne_book (book_of s)) (suc place)) bs) (part (starts (borne_book (book_of s)) place) (starts (borne_book (book_of s)) (suc place)) cs) ts mid least)
+            (subst (λ (g : Prices). LookedAgain (target_of_place limits g (users_of s) sums qs) es (part (starts (borne_book (book_of s)) place) (starts (borne_book (book_of s)) (suc place)) bs) (part (starts (borne_book (book_of s)) place) (starts (borne_book (book_of s)) (suc place)) cs)
+            ts mid least)
             q.risk.prices_are (rw (sf, se) at look))
             (rw (sf, se) at is-left))
 
