@@ -1,5 +1,7 @@
 // A book field by field: its header with the mark `GDF`, all ids, all roles, and so on through the user and then the trade fields; and back
 // to the book. A version is its header's size and the widths of its fields; the widths stand here once, as data.
+#![tactic(auto)]
+
 ghost use Rattle.std.specs.Prelude.{◌≡◌, ◌+◌, ◌*◌, ◌≤◌, length, take, drop};
 ghost use Rattle.std.proofs.lemmas.List.Edits.{sets};
 ghost use Rattle.fields.specs.Field.{set_field};
@@ -12,7 +14,7 @@ fn copy_marked(s: &[u8], mark: u64, out: &mut [u8])
     requires { (length out.old ≡ length s.now) × (3 ≤ length s.now) }
     ensures { out.new ≡ set_field 3 0 mark s.now }
 {
-    bytes::copy(s, out);
+    out.copy_from_slice(s);
     fields::put(out, 0, 3, mark);
 }
 

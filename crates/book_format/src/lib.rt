@@ -1,6 +1,8 @@
 // A book in bytes: what the bytes are, which questions they are asked, what a call does with them, and what they hold after a part of one
 // record is set in place. The definitions are in specs/, what follows from them (both round trips, one record changed) in proofs/. The code
 // is one record's: where it stands, read, and written, by its place.
+#![tactic(auto)]
+
 ghost use Rattle.std.specs.Prelude.{◌≡◌, ◌+◌, ◌*◌, ◌≤◌, ◌<◌, length, get_or, set};
 ghost use Rattle.std.proofs.lemmas.List.Edits.{sets};
 ghost use Rattle.rules.specs.Book.{nobody, no_trade};

@@ -1,5 +1,7 @@
 // The header of a book in bytes: the questions 1 to 3, which any bytes are asked, question 4 of its fields, its prices read and its fields
 // written.
+#![tactic(auto)]
+
 ghost use Rattle.std.specs.Prelude.{◌≡◌, ◌+◌, ◌≤◌, length, ◌∷◌, []};
 ghost use Rattle.std.proofs.lemmas.List.Edits.{sets};
 ghost use Rattle.rules.specs.Questions.{prices_are_valid, most_selling, selling_is_valid, header_is_valid};

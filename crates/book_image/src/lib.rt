@@ -1,6 +1,8 @@
 // The fields of a book as an image of 9,512 bytes, for callers that have no struct `Book`: a header of 40 bytes, 64 users of 68 bytes and
 // 256 trades in the book's format, 0 past the header and the user records of the book's version and past the counts. A book is read into an
 // image, and written from the fields of one: the bytes of that book are asked what any bytes are asked.
+#![tactic(auto)]
+
 ghost use Rattle.std.specs.Prelude.{◌≡◌, ◌-◌, ◌≤◌, ◌+◌, ◌*◌, T, length, replicate, take, drop};
 ghost use Rattle.std.proofs.lemmas.List.Edits.{sets};
 ghost use Rattle.book_format.specs.Book.{length_by, version_of, count_of_users, mark, count_of_trades, user_record, size_of_user, bytes_of};
@@ -46,7 +48,7 @@ pub fn fill(out: &mut [u8], front: &[u8])
     ensures { out.new ≡ padded (length out.old) front.now }
 {
     let n = front.len();
-    bytes::copy(front, &mut out[..n]);
+    out[..n].copy_from_slice(front);
     clear(&mut out[n..]);
 }
 
@@ -180,7 +182,7 @@ fn copy_marked(s: &[u8], out: &mut [u8])
     requires { (length out.old ≡ length s.now) × (3 ≤ length s.now) }
     ensures { out.new ≡ set_field 3 0 mark s.now }
 {
-    bytes::copy(s, out);
+    out.copy_from_slice(s);
     fields::put(out, 0, 3, 0x42_44_47);
 }
 
@@ -211,7 +213,7 @@ fn copy_records(s: &[u8], out: &mut [u8], n: usize, size: usize, offset: usize, 
     requires { (offset + width ≤ size) × (length s.now ≡ size * n) × (length out.old ≡ size * n) }
     ensures { out.new ≡ zeroed_records width offset size n s.now }
 {
-    bytes::copy(s, out);
+    out.copy_from_slice(s);
     clear_fields(out, n, size, offset, width);
 }
 

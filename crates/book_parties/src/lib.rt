@@ -1,4 +1,6 @@
 // Ids and their places: the ids of a book's users, and where an id stands among them.
+#![tactic(auto)]
+
 ghost use Rattle.std.specs.Prelude.{◌≡◌, cond, ◌+◌, ◌≤◌, ◌<◌, take, replicate};
 ghost use Rattle.book_parties.specs.Ids.{place_in, Padded, Guesses, FoundIn};
 
@@ -50,7 +52,7 @@ pub fn fill_guesses(ids: &[u32], n: usize, guesses: &mut [u8; 1024])
 }
 
 // The place of an id, and whether it has one.
-#[derive(Drop)]
+#[derive(Clone, Copy)]
 pub struct Found {
     pub place: usize,
     pub known: bool,

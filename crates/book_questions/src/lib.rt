@@ -1,6 +1,8 @@
 // The questions 1 to 7, asked of any bytes: the number of the first that is answered by no, and the places of the trades' parties where
 // there is none. One walk over the trades serves the questions 6 and 7, and tells for every user what was sold and bought in the three
 // areas, for d and for d+1.
+#![tactic(auto)]
+
 ghost use Rattle.std.specs.Prelude.{◌≡◌, ◌&&◌, ◌+◌, ◌*◌, ◌≤◌, ◌<◌, get_or, length, take, replicate};
 ghost use Rattle.base.specs.Lists.{all};
 ghost use Rattle.rules.specs.Book.{nobody};
@@ -15,7 +17,7 @@ ghost use Rattle.book_questions.specs.Asked.{FieldsPlaced, AskedOf, Summed};
 
 // What was asked: the number of the first question that is answered by no, 0 where there is none, and how many trades were read: none
 // where a question before 6 is answered by no, else those before the first that is not valid, all of them where each is.
-#[derive(Drop)]
+#[derive(Clone, Copy)]
 pub struct Answer {
     pub number: u32,
     pub read: usize,
@@ -149,7 +151,7 @@ fn leading_trades(
 }
 
 // What a walk over trades finds: whether each is valid and its zero byte 0, and how many come before one that is not valid.
-#[derive(Drop)]
+#[derive(Clone, Copy)]
 struct Walk {
     valid: bool,
     read: usize,

@@ -1,4 +1,6 @@
 // A user and a trade as the engine keeps them, and in the bytes of a book: 56 and 20 of them. Each is read and written here.
+#![tactic(auto)]
+
 ghost use Rattle.std.specs.Prelude.{◌≡◌, ◌+◌, ◌≤◌, length};
 ghost use Rattle.rules.specs.Book.{bilateral_for_day};
 ghost use Rattle.fields.specs.Layout.{set_fields};
@@ -76,7 +78,7 @@ pub const STANDING: usize = 16;
 pub const TRADE_SIZE: usize = 20;
 
 // A user. Role and amounts are as the bytes have them: whether they are valid is asked apart.
-#[derive(Drop)]
+#[derive(Clone, Copy)]
 pub struct User {
     pub id: u32,
     pub role: u8,
@@ -88,7 +90,7 @@ pub struct User {
 }
 
 // A trade. Area, kind, day and MWh are as the bytes have them: whether they are valid is asked apart.
-#[derive(Drop)]
+#[derive(Clone, Copy)]
 pub struct Trade {
     pub seller: u32,
     pub buyer: u32,

@@ -1,4 +1,6 @@
 // What each user sold and bought in each area for each day, counted trade by trade, and question 7: is every position as defined by it?
+#![tactic(auto)]
+
 ghost use Rattle.std.specs.Prelude.{◌≡◌, ◌+◌, ◌*◌, ◌≤◌, ◌<◌, length};
 ghost use Rattle.units.specs.Amounts.{net};
 ghost use Rattle.book_records.specs.User.{as_user};

@@ -1,5 +1,7 @@
 // The whole book as a struct by value: its users and trades are arrays of records. It is read from bytes that pass the questions 1 to 3,
 // and written to bytes of its length.
+#![tactic(auto)]
+
 ghost use Rattle.std.specs.Prelude.{◌≡◌, ◌+◌, ◌*◌, ◌≤◌, length, take, drop, eqb};
 ghost use Rattle.std.proofs.lemmas.List.Edits.{sets};
 ghost use Rattle.fields.specs.Layout.{bytes_of_records};
@@ -17,7 +19,7 @@ use units::Prices;
 // ---- users and trades
 
 // The ids of a user's managers, one per area, 0 for none.
-#[derive(Drop)]
+#[derive(Clone, Copy)]
 pub struct Managers {
     pub pvb: u32,
     pub tvb: u32,
@@ -25,7 +27,7 @@ pub struct Managers {
 }
 
 // A user with its managers: all that its record holds.
-#[derive(Drop)]
+#[derive(Clone, Copy)]
 pub struct Record {
     pub user: User,
     pub managers: Managers,
@@ -165,7 +167,7 @@ pub fn write_trades(out: &mut [u8], at: usize, trades: [Trade; 256], n: usize)
 // A book: the header's fields, the users up to `user_count` and the trades up to `trade_count`; what stands past the counts is not of the
 // book. Selling tariffs are 0 when a book of version 1 is read, managers when one of version 1 or 2 is, and not looked at when it is
 // written.
-#[derive(Drop)]
+#[derive(Clone, Copy)]
 pub struct Book {
     pub version: u16,
     pub user_count: u8,

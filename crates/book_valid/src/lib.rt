@@ -1,4 +1,6 @@
 // Are a user's and a trade's fields valid? Each field of one record by itself; what is asked of the records together is asked elsewhere.
+#![tactic(auto)]
+
 ghost use Rattle.std.specs.Prelude.{◌≡◌};
 ghost use Rattle.rules.specs.Questions.{user_is_valid};
 ghost use Rattle.book_records.specs.User.{as_user};

@@ -1,5 +1,7 @@
 // A book by value: read from bytes that pass the questions 1 to 7, and written to a lent part of its length, or refused with the first
 // question that the bytes so written would fail.
+#![tactic(auto)]
+
 ghost use Rattle.std.specs.Prelude.{◌≡◌, ◌+◌, ◌*◌, ◌≤◌, length};
 ghost use Rattle.book_format.specs.Questions.{Formed};
 ghost use Rattle.book_tables.specs.Book.{as_book};
@@ -13,7 +15,7 @@ use book_tables::Book;
 // ---- a book opened
 
 // Bytes that were asked the questions 1 to 7: the number, and the book, whose every field is 0 where a question refuses.
-#[derive(Drop)]
+#[derive(Clone, Copy)]
 pub struct Opening {
     pub number: u32,
     pub book: Book,

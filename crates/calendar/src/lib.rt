@@ -1,4 +1,6 @@
 // The calendar that a book's date is held to: real Gregorian days of 2020 to 2099.
+#![tactic(auto)]
+
 ghost use Rattle.std.specs.Prelude.{◌≡◌, ◌≤◌, ◌<◌};
 ghost use Rattle.rules.specs.Calendar.{leap_year, days_in_month, real_day};
 

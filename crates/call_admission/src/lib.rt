@@ -1,6 +1,8 @@
 // The opening questions of a call with its setting: those of its book, 1 to 7, then 26, whether the acting party may have what it asks
 // for, and after it those of its store, 16 and 17. They give a number and the figures of the call. A list of postings is asked 15 after
 // 26. A call that may be given a log is asked 19 after them.
+#![tactic(auto)]
+
 ghost use Rattle.std.specs.Prelude.{cond, ◌≡◌, ◌≤◌, length, replicate};
 ghost use Rattle.units.specs.Limits.{as_limits, LimitsInRange};
 ghost use Rattle.book_format.specs.Questions.{book_number};
@@ -17,7 +19,7 @@ use units::Limits;
 
 // What the opening questions give: the number of the first that is answered by no, 0 where there is none, and the figures that the call
 // takes then.
-#[derive(Drop)]
+#[derive(Clone, Copy)]
 pub struct Admission {
     pub limits: Limits,
     pub number: u32,

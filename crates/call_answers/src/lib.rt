@@ -1,4 +1,6 @@
 // The answers of the public calls: a number, and what the call found, made or cut; 0 in every other field where the number is not 0.
+#![tactic(auto)]
+
 ghost use Rattle.std.specs.Prelude.{◌≡◌, ◌-◌};
 ghost use Rattle.requests.specs.Cancellation.{not_cancelled};
 ghost use Rattle.rules.specs.Calls.{only, answer_of_cuts};
@@ -13,28 +15,28 @@ use risk_user::State;
 use units::{Cents, Energy};
 
 // A level, and 0; or 0 cents and the number of the first question that is answered by no.
-#[derive(Drop)]
+#[derive(Clone, Copy)]
 pub struct LevelAnswer {
     pub number: u32,
     pub level: Cents,
 }
 
 // Whether the user is warned, and 0; or no and the number of the first question that is answered by no.
-#[derive(Drop)]
+#[derive(Clone, Copy)]
 pub struct WarningAnswer {
     pub number: u32,
     pub warned: bool,
 }
 
 // Whether a user is flagged, and 0; or no and the number of the first question that is answered by no.
-#[derive(Drop)]
+#[derive(Clone, Copy)]
 pub struct FlagAnswer {
     pub number: u32,
     pub flagged: bool,
 }
 
 // How many trades a user may see, and 0; or 0 trades and the number of the first question that is answered by no.
-#[derive(Drop)]
+#[derive(Clone, Copy)]
 pub struct CountAnswer {
     pub number: u32,
     pub count: u32,
@@ -43,7 +45,7 @@ pub struct CountAnswer {
 // ---- the levels of all users
 
 // A user's id, its state, and its morning and its afternoon level, which are 0 of a clearing house.
-#[derive(Drop)]
+#[derive(Clone, Copy)]
 pub struct UserLevels {
     pub id: u32,
     pub state: State,
@@ -53,7 +55,7 @@ pub struct UserLevels {
 
 // The users of a book in its order, with 0 in every field past the last, and 0; or 0 everywhere, and the number of the first question that
 // is answered by no.
-#[derive(Drop)]
+#[derive(Clone, Copy)]
 pub struct LevelsAnswer {
     pub number: u32,
     pub users: [UserLevels; 64],
@@ -62,7 +64,7 @@ pub struct LevelsAnswer {
 // ---- a guarantee call
 
 // The level and what was added to the blocked guarantee, and 0; or 0 cents and the number of the first question that is answered by no.
-#[derive(Drop)]
+#[derive(Clone, Copy)]
 pub struct CallAnswer {
     pub number: u32,
     pub level: Cents,
@@ -86,7 +88,7 @@ impl CallAnswer {
 
 // The MWh cut and their worth, the target, and what the worth falls short of it or exceeds it by, and 0; or 0 in every field and the number
 // of the first question that is answered by no.
-#[derive(Drop)]
+#[derive(Clone, Copy)]
 pub struct ReductionAnswer {
     pub number: u32,
     pub mwh: Energy,
@@ -132,7 +134,7 @@ impl ReductionAnswer {
 
 // The number of reductions, the MWh cut and their worth, and 0; or the number of the first question that is answered by no, with every
 // other field 0.
-#[derive(Drop)]
+#[derive(Clone, Copy)]
 pub struct RunAnswer {
     pub number: u32,
     pub reductions: u64,
@@ -158,7 +160,7 @@ impl RunAnswer {
 
 // The MWh and the worth of the reduction that was withdrawn, and 0; or 0 in both and the number of the first question that is answered by
 // no.
-#[derive(Drop)]
+#[derive(Clone, Copy)]
 pub struct WithdrawalAnswer {
     pub number: u32,
     pub mwh: Energy,
@@ -169,7 +171,7 @@ pub struct WithdrawalAnswer {
 
 // The marks of the trades to cancel, by trade place, what their worth exceeds the target by, the tries made, whether the search is
 // complete, and 0; or no mark, 0 in every field and the number of the first question that is answered by no.
-#[derive(Drop)]
+#[derive(Clone, Copy)]
 pub struct CancellationAnswer {
     pub number: u32,
     pub marks: [bool; 256],

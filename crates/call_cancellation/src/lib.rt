@@ -1,6 +1,8 @@
 // A whole cancellation on a lent book in bytes: its questions, the worths of the user's eligible trades, of both tiers, the search among
 // their sets (`cut_sets`), and the marks of the set that it found, by trade place. It changes no book. Everywhere `book` has m trades,
 // which begin at `at`, and `sellers` and `buyers` have the places of those who bear the risk of their sellers and of their buyers.
+#![tactic(auto)]
+
 ghost use Rattle.std.specs.Prelude.{cond, not, ◌&&◌, [], ◌∷◌, ◌≡◌, ◌*◌, ◌/◌, ◌%◌, ◌≤◌, ◌<◌, eqb, ltb, get_or, replicate};
 ghost use Rattle.book_format.specs.Book.{book_of, count_of_trades, trades_at, trades_of, count_of_users, users_of};
 ghost use Rattle.book_format.specs.Places.{TradeIn};

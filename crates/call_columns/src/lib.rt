@@ -1,5 +1,7 @@
 // Field-wise storage: the form of a book written to an output after the book's opening questions, and the book of a form written to an
 // output. A refused call leaves the output as it is, a longer output keeps its rest.
+#![tactic(auto)]
+
 ghost use Rattle.std.specs.Prelude.{◌≡◌, length};
 ghost use Rattle.book_format.specs.Questions.{book_number};
 ghost use Rattle.outputs.specs.Output.{Wrote};
@@ -51,7 +53,7 @@ fn restore_by(form: &[u8], room: &mut [u8], out: &mut [u8]) -> u32
     if out.len() < size {
         return 30;
     }
-    bytes::copy(&room[..size], out);
+    out[..size].copy_from_slice(&room[..size]);
     0
 }
 

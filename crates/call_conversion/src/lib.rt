@@ -1,5 +1,7 @@
 // A book written as another version to an output, after the book's opening questions. A refused call leaves the output as it is, a longer
 // output keeps its rest.
+#![tactic(auto)]
+
 ghost use Rattle.std.specs.Prelude.{◌≡◌};
 ghost use Rattle.rules.specs.Questions.{version_known};
 ghost use Rattle.book_format.specs.Questions.{book_number};

@@ -1,4 +1,6 @@
 // The common beginning of every call on a user: question 8 after the opening questions, and the user's place in the book.
+#![tactic(auto)]
+
 ghost use Rattle.std.specs.Prelude.{◌≡◌, ◌≤◌};
 ghost use Rattle.book_format.specs.Book.{count_of_users, users_of};
 ghost use Rattle.book_format.specs.Questions.{Formed, book_number};
@@ -26,7 +28,7 @@ pub fn place_of(s: &[u8], id: u32) -> usize
 
 // What a call on a user begins with: the number of the first of the opening questions and question 8 that is answered by no, else 0 with
 // the user's place.
-#[derive(Drop)]
+#[derive(Clone, Copy)]
 pub struct Entry {
     pub number: u32,
     pub place: usize,

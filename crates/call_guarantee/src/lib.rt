@@ -1,5 +1,7 @@
 // The guarantee calls on a lent book in bytes: a user's blocked guarantee is raised to its morning or its afternoon level. Both times of
 // the day go one way, with the level of the time.
+#![tactic(auto)]
+
 ghost use Rattle.std.specs.Prelude.{true, ◌≡◌, ◌<◌, get_or};
 ghost use Rattle.units.specs.Limits.{as_limits};
 ghost use Rattle.book_records.specs.User.{alone, as_amounts, as_user};

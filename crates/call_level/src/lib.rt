@@ -1,4 +1,6 @@
 // The morning or the afternoon level of a user, on a lent book in bytes. Both times of the day go one way, with the level of the time.
+#![tactic(auto)]
+
 ghost use Rattle.std.specs.Prelude.{◌≡◌, get_or, ◌<◌};
 ghost use Rattle.units.specs.Limits.{as_limits};
 ghost use Rattle.rules.specs.Book.{nobody};

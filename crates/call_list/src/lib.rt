@@ -1,5 +1,7 @@
 // A list of postings: up to 512 corrections as columns of ids, areas and signed amounts, and a place beside each line for its number. The
 // opening questions are asked once for the whole list; then the lines are posted one after another, each with its own question 8 or 10.
+#![tactic(auto)]
+
 ghost use Rattle.std.specs.Prelude.{◌≡◌, length, replicate};
 ghost use Rattle.rules.specs.Levels.{Limits};
 ghost use Rattle.rules.specs.Calls.{only};

@@ -1,5 +1,7 @@
 // The calls of a lent book in bytes that write entries of a log, after the opening questions: a run that notes each of its reductions, and
 // the withdrawal of the last one noted. The log then holds the book as the call leaves it.
+#![tactic(auto)]
+
 ghost use Rattle.std.specs.Prelude.{cond, ◌≡◌, suc, T};
 ghost use Rattle.book_parties.specs.Ids.{BookIn};
 ghost use Rattle.book_questions.specs.Opened.{Opened, OpenedParties};

@@ -1,5 +1,7 @@
 // Those who bear the risk of the trades' parties, after the opening questions: their places, and the twelve sums of what stands at these.
 // In a version without managers each user bears its own risk.
+#![tactic(auto)]
+
 ghost use Rattle.std.specs.Prelude.{true, ◌≡◌, length, replicate};
 ghost use Rattle.book_format.specs.Book.{trades_of, users_of, version_of};
 ghost use Rattle.book_parties.specs.Ids.{BookIn};

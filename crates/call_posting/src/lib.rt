@@ -1,4 +1,6 @@
 // The posting: a signed amount added to one user's physical entry and position in one area, on a lent book in bytes.
+#![tactic(auto)]
+
 ghost use Rattle.std.specs.Prelude.{◌≡◌, ◌<◌};
 ghost use Rattle.rules.specs.Levels.{Limits};
 ghost use Rattle.rules.specs.Calls.{only};
@@ -10,7 +12,7 @@ ghost use Rattle.call_posting.specs.Posting.{Ready, PostedTo, PostedAt, posting_
 use units::{Net, Posted};
 
 // The bits of a physical entry and of its position after a posting, and whether it is accepted.
-#[derive(Drop)]
+#[derive(Clone, Copy)]
 struct Change {
     accepted: bool,
     entry: u32,

@@ -1,5 +1,7 @@
 // What a reduction and a whole cancellation ask of a user before they look at its sales: the questions 9, 11 and 13 on its state, and the
 // target T where none of them refuses.
+#![tactic(auto)]
+
 ghost use Rattle.std.specs.Prelude.{◌≡◌, ◌<◌, get_or, length};
 ghost use Rattle.book_format.specs.Book.{book_of, count_of_users, users_of};
 ghost use Rattle.units.specs.Limits.{as_limits};
@@ -16,7 +18,7 @@ use units::Cents;
 
 // What is told of a user: the number of the first of the questions 9, 11 and 13 that is answered by no, 0 where there is none, and then the
 // target.
-#[derive(Drop)]
+#[derive(Clone, Copy)]
 pub struct Shortfall {
     pub number: u32,
     pub target: Cents,

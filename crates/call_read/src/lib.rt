@@ -1,4 +1,6 @@
 // A book read into its fields by an acting party, as a struct or as an image: it is the operator's.
+#![tactic(auto)]
+
 ghost use Rattle.std.specs.Prelude.{◌≡◌, length};
 ghost use Rattle.book_image.specs.Image.{image_size};
 ghost use Rattle.rights.specs.Party.{party_of};

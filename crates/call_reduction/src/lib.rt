@@ -1,6 +1,8 @@
 // A reduction on a lent book in bytes: its questions, and the cuts of the user's own sales for what its afternoon level exceeds its
 // assigned guarantee by. The sales are cut on arrays, as in a run, and what they lose is taken off in the bytes. A log that is given has
 // the cuts noted; where it has no room for them the last question, 20, is answered by no.
+#![tactic(auto)]
+
 ghost use Rattle.std.specs.Prelude.{true, ◌≡◌, ◌<◌, T, get_or};
 ghost use Rattle.book_parties.specs.Ids.{BookIn};
 ghost use Rattle.laws_sales.specs.Borne.{borne_book};

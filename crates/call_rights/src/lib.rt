@@ -1,4 +1,6 @@
 // Question 26, after those of the book: may the acting party have what it asks for?
+#![tactic(auto)]
+
 ghost use Rattle.std.specs.Prelude.{◌≡◌, ◌≤◌};
 ghost use Rattle.book_format.specs.Book.{book_of};
 ghost use Rattle.book_format.specs.Questions.{book_number};

@@ -1,4 +1,6 @@
 // The run of a lent book in bytes: while some user that is short of cover has an eligible trade, the one of the lowest id is reduced.
+#![tactic(auto)]
+
 ghost use Rattle.std.specs.Prelude.{◌≡◌};
 ghost use Rattle.book_format.specs.After.{CalledAfter};
 ghost use Rattle.units.specs.Limits.{as_limits};

@@ -1,4 +1,6 @@
 // The shown record: a user's bytes, 56 or in version 3 all 68, as that part of the lent book, no copy and no offset.
+#![tactic(auto)]
+
 ghost use Rattle.std.specs.Prelude.{◌≡◌};
 ghost use Rattle.book_format.specs.Questions.{book_number};
 ghost use Rattle.call_show.specs.Shown.{ShownAfter, PartAfter, picked, picked_at};

@@ -1,5 +1,7 @@
 // What a shipper is told of itself beside its record and its levels: whether it is flagged, how many trades it may see, and each of them by
 // ordinal, as that part of the lent book.
+#![tactic(auto)]
+
 ghost use Rattle.std.specs.Prelude.{cond, ◌≡◌, ◌+◌, ◌*◌, ◌<◌, ◌≤◌, get_or, length};
 ghost use Rattle.rules.specs.Book.{no_trade, nobody};
 ghost use Rattle.rules.specs.Levels.{flagged, Limits as Figures};

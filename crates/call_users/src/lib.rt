@@ -1,5 +1,7 @@
 // The levels and the state of every user of a lent book in bytes, after one asking of its questions: user by user what the calls for its
 // id tell. It changes no book.
+#![tactic(auto)]
+
 ghost use Rattle.std.specs.Prelude.{false, map, ◌≡◌, ◌<◌, get_or, replicate};
 ghost use Rattle.rules.specs.Book.{nobody};
 ghost use Rattle.rules.specs.Day as day;

@@ -1,5 +1,7 @@
 // A book written as another version. A version is the sizes of its header and of its user records: a field that only the longer has stands
 // at the end of it, and is 0 in the shorter.
+#![tactic(auto)]
+
 ghost use Rattle.std.specs.Prelude.{◌≡◌, ◌+◌, ◌-◌, ◌*◌, ◌≤◌, length, drop};
 ghost use Rattle.std.proofs.lemmas.List.Edits.{sets};
 ghost use Rattle.book_format.specs.Book.{book_of, length_by, count_of_trades, count_of_users};
@@ -78,7 +80,7 @@ fn copy_rest(s: &[u8], from: usize, out: &mut [u8], to: usize)
     requires { (from ≤ length s.now) × (to + (length s.now - from) ≡ length out.old) }
     ensures { out.new ≡ sets out.old to (drop from s.now) }
 {
-    bytes::copy(&s[from..], &mut out[to..]);
+    out[to..].copy_from_slice(&s[from..]);
 }
 
 // Writes an accepted book as a version to a part of the length that it then has.

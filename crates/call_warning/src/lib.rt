@@ -1,4 +1,6 @@
 // The midday warning of a user: is it flagged, or buyer of a bilateral trade of the day that stands, whose seller is a flagged shipper?
+#![tactic(auto)]
+
 ghost use Rattle.std.specs.Prelude.{◌≡◌, T};
 ghost use Rattle.rules.specs.Book.{find};
 ghost use Rattle.rules.specs.Levels.{seller_of};

@@ -1,5 +1,7 @@
 // Sales that lose something, in the bytes of a book: the positions of the seller and the buyer of each move, and the trades are lowered as
 // records, in one list, and written back.
+#![tactic(auto)]
+
 ghost use Rattle.std.specs.Prelude.{◌≡◌, ◌+◌, ◌*◌, ◌≤◌, ◌<◌, ◌^◌, pos, neg_ℤ, ◌+ℤ◌, length};
 ghost use Rattle.book_format.specs.Book.{book_of, trades_at, count_of_users, users_of};
 ghost use Rattle.book_parties.specs.Ids.{BookIn};

@@ -1,6 +1,8 @@
 // Who is party to a trade standing below notified, by the places of the trades' parties: flags for all users, or the answer for one.
 // Everywhere `book` has n users and m trades, and `bearing_sellers` and `bearing_buyers` have the places of those who bear the risk of the
 // sellers and the buyers of its trades: "A member's trade there calls in the manager in place of the member".
+#![tactic(auto)]
+
 ghost use Rattle.std.specs.Prelude.{false, ◌&&◌, ◌||◌, ◌≡◌, ◌<◌, eqb, ltb, get_or, replicate};
 ghost use Rattle.book_format.specs.Book.{count_of_trades, trades_of, count_of_users};
 ghost use Rattle.book_format.specs.Places.{TradeIn};

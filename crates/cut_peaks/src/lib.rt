@@ -1,6 +1,8 @@
 // Reductions of a few MWh: where no share has a whole part, the sales that stand highest in the tier lose one MWh each, the earliest first.
 // So a seller's next cuts are known from the place of the next of them, without asking every sale again: a pass over all of them is made
 // once for each MWh that the highest lose, not once for each reduction.
+#![tactic(auto)]
+
 ghost use Rattle.std.specs.Prelude.{true, false, ◌≡◌, ◌≤◌, ◌<◌, max, get_or};
 ghost use Rattle.cut_peaks.specs.Keeping.{Below, bounded, Chosen, KeptFor, SameShort, swept_to, tier_rates};
 ghost use Rattle.units.specs.Prices.{as_prices, InRange};
@@ -79,7 +81,7 @@ fn next_peak(
 // ---- the highest sales by area
 
 // For each area an amount that no sale of a seller in it stands above.
-#[derive(Drop)]
+#[derive(Clone, Copy)]
 pub struct Heights {
     pub pvb: u64,
     pub tvb: u64,
@@ -87,7 +89,7 @@ pub struct Heights {
 }
 
 // The first of the highest sales in a tier, what they stand at, and amounts that no sale stands above.
-#[derive(Drop)]
+#[derive(Clone, Copy)]
 pub struct Peak {
     pub mwh: u64,
     pub place: usize,
@@ -97,7 +99,7 @@ pub struct Peak {
 // ---- their cuts
 
 // The next of the highest sales behind those that were cut, and what they lost.
-#[derive(Drop)]
+#[derive(Clone, Copy)]
 pub struct Sweep {
     pub end: usize,
     pub lost: u64,
@@ -137,7 +139,7 @@ fn peak_cuts(
 // Of a seller, where anything is known of it: in which areas its position is negative; whether its sales lose from tier two, tier one being
 // worth nothing; what that tier is worth, what its highest sales stand at, and the place of the next of them; and for each area what none
 // of its sales stands above, whatever the tier.
-#[derive(Drop)]
+#[derive(Clone, Copy)]
 pub struct Kept {
     pub known: bool,
     pub pvb: bool,
@@ -312,7 +314,7 @@ fn current(
 // ---- the cuts of a reduction
 
 // Whether the cuts of a reduction were filled in, those of the highest sales from the kept place up to an end, and what they are worth.
-#[derive(Drop)]
+#[derive(Clone, Copy)]
 pub struct Choice {
     pub fits: bool,
     pub kept: Kept,

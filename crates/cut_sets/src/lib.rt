@@ -3,6 +3,8 @@
 // so that try k + 1 leaves out the set k, the last trade being its lowest bit. With at most 65,535 tries only the last 16 trades are ever
 // left out. The worth of a set left out is read off two tables, of its high and its low eight bits, with one sum for each try; the high
 // bits change only with every 256th try.
+#![tactic(auto)]
+
 ghost use Rattle.std.specs.Prelude.{◌≡◌, ◌^◌, ◌≤◌, ◌<◌, min, take};
 ghost use Rattle.base.specs.Sums.{sum};
 ghost use Rattle.cut_sets.specs.Sets.{worth_of_set, last_worth};
@@ -10,7 +12,7 @@ ghost use Rattle.cut_sets.specs.Found.{Given, Sought, TableRoom, Table, Told, An
 ghost use Rattle.cut_sets.specs.Counting.{Block, FirstBetter, Passed};
 
 // What a search found: the excess over the target, the tries made, whether it is complete, and the trades left out, as a binary number.
-#[derive(Drop)]
+#[derive(Clone, Copy)]
 pub struct Found {
     pub excess: u64,
     pub tries: u32,
@@ -19,7 +21,7 @@ pub struct Found {
 }
 
 // The first tried set with the smallest excess so far, by the trades that it leaves out, with their worth, and the number of tries made.
-#[derive(Drop)]
+#[derive(Clone, Copy)]
 struct Best {
     left: usize,
     out: u64,

@@ -1,5 +1,7 @@
 // The cuts of a reduction on arrays: what stands of a seller's own sales and the areas of the sales, from..to. The cuts of both tiers are
 // filled in; one is taken off, and tallied.
+#![tactic(auto)]
+
 ghost use Rattle.std.specs.Prelude.{Bool, cond, ◌≡◌, ℕ, ◌+◌, ◌-◌, ◌≤◌, ◌<◌, ◌^◌, length, get_or, set};
 ghost use Rattle.std.proofs.lemmas.List.Edits.{sets};
 ghost use Rattle.rules.specs.Areas.{tariff};

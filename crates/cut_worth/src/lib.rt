@@ -1,6 +1,8 @@
 // The worth of a tier, the running tally of a reduction and the totals of a run. Sales stand in two arrays: what stands of each, and its
 // area. A part of them is named by where it starts and where it ends. `rates` has the tariff of each area that belongs to the tier, and 0
 // for the others.
+#![tactic(auto)]
+
 ghost use Rattle.std.specs.Prelude.{◌≡◌, ◌+◌, ◌*◌, ◌-◌, ◌≤◌, ◌<◌, ◌^◌, get_or};
 ghost use Rattle.rules.specs.Areas.{Prices, tariff};
 ghost use Rattle.rules.specs.Book.{Trade};
@@ -61,7 +63,7 @@ pub fn worth_of(
 // ---- the tally of a reduction
 
 // The running tally of a reduction: the MWh cut and their worth, each cut × t.
-#[derive(Drop)]
+#[derive(Clone, Copy)]
 pub struct Tally {
     pub mwh: Energy,
     pub worth: Cents,
@@ -98,7 +100,7 @@ impl Tally {
 // ---- the totals of a run
 
 // The totals of a run: the number of its reductions, the MWh cut and their worth.
-#[derive(Drop)]
+#[derive(Clone, Copy)]
 pub struct Totals {
     pub reductions: u64,
     pub mwh: Energy,

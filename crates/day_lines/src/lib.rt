@@ -1,5 +1,7 @@
 // What is printed of a user after the run: id, state, afternoon level and the three positions of its record. A line is told from the book's
 // bytes, and from the sums and the positions of its users as their risk is borne, which are gathered once for all lines.
+#![tactic(auto)]
+
 ghost use Rattle.std.specs.Prelude.{cond, ◌≡◌};
 ghost use Rattle.rules.specs.Levels.{shipper};
 ghost use Rattle.book_records.specs.User.{as_user};
@@ -23,7 +25,7 @@ fn printed_level(user: User, level: Cents) -> Cents
 }
 
 // A line of the printed day.
-#[derive(Drop)]
+#[derive(Clone, Copy)]
 pub struct Line {
     pub id: u32,
     pub state: State,

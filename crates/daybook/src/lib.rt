@@ -4,6 +4,8 @@
 // byte for byte the same. Each asks the opening questions and hands their number on, with the figures that they give; what it gives is one
 // definition of specs/ of `rights`, over those of `requests`. The calls that may change a book stand in changes.rt, those that write
 // it another way in storage.rt.
+#![tactic(auto)]
+
 ghost use Rattle.std.specs.Prelude.{◌≡◌};
 ghost use Rattle.rules.specs.Queries.{morning_level_of, afternoon_level_of};
 ghost use Rattle.store.specs.Store.{given};

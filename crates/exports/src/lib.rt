@@ -1,8 +1,10 @@
-// The C interface over the public calls of `daybook` and `shrinkage`; include/daybook.h declares it. A slice is a pointer and a length in
-// C. No function asks anything of what it is lent: a part for answers of another length than the function's gets the number 255, and
-// nothing is asked or changed. A store and a log come with a flag each, which is 0 where there is none. Every function on a book takes the
-// acting party after it, a shipper's id or 2^32 for the operator; what a shipper may have is copied. The functions that can change a book
-// stand in changes.rt, a user's flag and the trades that it may see in told.rt.
+// The C interface over the public calls of `daybook` and `shrinkage`; the static library `exports_c` has it for C, where a slice is a
+// pointer and a length. No function asks anything of what it is lent: a part for answers of another length than the function's gets the
+// number 255, and nothing is asked or changed. A store and a log come with a flag each, which is 0 where there is none. Every function on a
+// book takes the acting party after it, a shipper's id or 2^32 for the operator; what a shipper may have is copied. The functions that can
+// change a book stand in changes.rt, a user's flag and the trades that it may see in told.rt.
+#![tactic(auto)]
+
 ghost use Rattle.std.specs.Prelude.{◌≡◌};
 ghost use Rattle.rules.specs.Queries.{morning_level_of, afternoon_level_of};
 ghost use Rattle.requests.specs.Request.{setting_of};
@@ -20,8 +22,8 @@ ghost use Rattle.exports.specs.Answers.{ReadInto, WrittenFrom, ReturnedInto, Spr
 
 use shrinkage::Kwh;
 
-mod changes;
-mod told;
+pub mod changes;
+pub mod told;
 
 // The number for a lent part of another length than the function asks for.
 const WRONG_LENGTH: u32 = 255;

@@ -1,5 +1,7 @@
 // The answers of the calls as numbers in a lent part, for the C interface: each kind of answer has its numbers in a fixed order, and its
 // number is passed on.
+#![tactic(auto)]
+
 ghost use Rattle.std.specs.Prelude.{◌≡◌, length};
 ghost use Rattle.call_answers.specs.Level as levels;
 ghost use Rattle.call_answers.specs.Warning as warned;

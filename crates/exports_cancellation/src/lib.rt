@@ -1,4 +1,6 @@
 // The marks and the numbers of a whole cancellation in two lent parts, for the C interface: each in a fixed order.
+#![tactic(auto)]
+
 ghost use Rattle.std.specs.Prelude.{map, ◌≡◌, length};
 ghost use Rattle.call_answers.specs.Cancellation.{cancellation_of};
 ghost use Rattle.exports_answers.specs.Numbers.{bit};

@@ -1,4 +1,6 @@
 // A return of shrinkage and the days of a share as numbers in a lent part, for the C interface: each in a fixed order.
+#![tactic(auto)]
+
 ghost use Rattle.std.specs.Prelude.{◌≡◌, length};
 ghost use Rattle.shrinkage.specs.Answer.{as_returned, kwh_of};
 ghost use Rattle.exports_shrinkage.specs.Numbers.{return_numbers, table_numbers};

@@ -1,4 +1,6 @@
 // The levels of all users as numbers in a lent part, for the C interface: four for each of 64 users, in a fixed order.
+#![tactic(auto)]
+
 ghost use Rattle.std.specs.Prelude.{map, ◌≡◌, ◌+◌, ◌≤◌, length};
 ghost use Rattle.std.proofs.lemmas.List.Edits.{sets};
 ghost use Rattle.risk_user.specs.States.{state_of};

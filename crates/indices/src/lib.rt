@@ -1,4 +1,6 @@
 // Indices: a byte as one, and the lesser of two.
+#![tactic(auto)]
+
 ghost use Rattle.std.specs.Prelude.{◌≡◌, ◌<◌, min};
 
 // A byte as an index.

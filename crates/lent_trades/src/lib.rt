@@ -1,5 +1,7 @@
 // The trades of a tier are a list of records, cut where they are: the list is lent by `&mut`, and what stands of each trade is lowered by
 // its cut.
+#![tactic(auto)]
+
 ghost use Rattle.std.specs.Prelude.{◌≡◌, ◌-◌, get_or};
 ghost use Rattle.lent_trades.specs.Lowering.{LoweredBy};
 
@@ -18,7 +20,7 @@ pub fn left_of(cuts: &[u64], i: usize, standing: u32) -> u32
 }
 
 // Each trade of the list is lowered by its own cut, where it is; trades past the cuts stay as they are, so the loop ends with the shorter
-// list. The borrow checker does not cover this form, so its proof walks the code by hand.
+// list.
 pub fn lower_all(trades: &mut [Trade], cuts: &[u64])
     ensures { LoweredBy cuts.now trades.old trades.new }
 {
@@ -31,8 +33,7 @@ pub fn lower_all(trades: &mut [Trade], cuts: &[u64])
     }
 }
 
-// An array of trades by value is lent to `lower_all`. This proof walks the code by hand, too; with no struct behind a reference, whoever
-// calls it needs no such proof.
+// An array of trades by value is lent to `lower_all`.
 pub fn cut_all(trades: [Trade; 256], cuts: &[u64]) -> [Trade; 256]
     ensures { LoweredBy cuts.now trades result }
 {
@@ -41,7 +42,7 @@ pub fn cut_all(trades: [Trade; 256], cuts: &[u64]) -> [Trade; 256]
     lowered
 }
 
-// The same of a short array. One walk over any length proves both.
+// The same of a short array.
 pub fn cut_few(trades: [Trade; 32], cuts: &[u64]) -> [Trade; 32]
     ensures { LoweredBy cuts.now trades result }
 {

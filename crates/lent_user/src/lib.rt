@@ -1,11 +1,13 @@
 // One user record changed in place: the record is lent by `&mut`, and its blocked guarantee is raised to a level.
+#![tactic(auto)]
+
 ghost use Rattle.lent_user.specs.Raising.{RaisedTo, BlockedTo};
 
 use book_records::User;
 use units::Cents;
 
 // A blocked guarantee that was raised, and what was added to it.
-#[derive(Drop)]
+#[derive(Clone, Copy)]
 pub struct Raised {
     pub blocked: Cents,
     pub added: Cents,
@@ -22,8 +24,7 @@ pub fn raise(blocked: Cents, level: Cents) -> Raised
     }
 }
 
-// The record is changed where it is: its blocked guarantee is raised to the level. Gives back what was added. The borrow checker does not
-// cover this form, so its proof walks the code by hand.
+// The record is changed where it is: its blocked guarantee is raised to the level. Gives back what was added.
 pub fn block(user: &mut User, level: Cents) -> Cents
     ensures { BlockedTo level.0 user.old user.new result }
 {
@@ -34,14 +35,13 @@ pub fn block(user: &mut User, level: Cents) -> Cents
 }
 
 // A user whose blocked guarantee was raised, and what was added to it.
-#[derive(Drop)]
+#[derive(Clone, Copy)]
 pub struct Blocking {
     pub user: User,
     pub added: Cents,
 }
 
-// A record by value is lent to `block`. This proof walks the code by hand, too; with plain parameters, whoever calls it needs no such
-// proof.
+// A record by value is lent to `block`.
 pub fn blocked_user(user: User, level: Cents) -> Blocking
     ensures { BlockedTo level.0 user result.user result.added }
 {

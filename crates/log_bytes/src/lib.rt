@@ -1,5 +1,7 @@
 // Parts of lent bytes as a whole: are two the same, is one all 0, make one all 0. Each is one walk without an early end, so that the
 // compiler takes many bytes at a time: a log has some 270,000 of them, and nearly all are 0.
+#![tactic(auto)]
+
 ghost use Rattle.std.specs.Prelude.{◌≡◌, length, replicate};
 ghost use Rattle.log_format.specs.Fits.{same_bytes, zeros};
 

@@ -1,5 +1,7 @@
 // What is written in a log: the first bytes with the book that it holds, an entry more, the last dropped, all of them dropped; and the
 // start of a log. Which entry is meant is the caller's own, never input.
+#![tactic(auto)]
+
 ghost use Rattle.std.specs.Prelude.{◌≡◌, ◌*◌, ◌<◌, ◌≤◌, length};
 ghost use Rattle.log_format.specs.Log.{entries_at, entry_at, entry_size, log_head, padded};
 ghost use Rattle.log_format.specs.Fits.{start_number, started};
@@ -24,7 +26,7 @@ fn put_held(part: &mut [u8], book: &[u8])
     ensures { part.new ≡ padded (length part.old) book.now }
 {
     let n = book.len();
-    bytes::copy(book, &mut part[..n]);
+    part[..n].copy_from_slice(book);
     log_bytes::clear(&mut part[n..]);
 }
 

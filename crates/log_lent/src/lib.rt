@@ -1,5 +1,7 @@
 // A lent log that a call is given or not: question 19 of it, the room for one more entry, a reduction noted, and the log emptied after an
 // accepted posting, list or guarantee call.
+#![tactic(auto)]
+
 ghost use Rattle.std.specs.Prelude.{true, ◌≡◌, length};
 ghost use Rattle.book_format.specs.Questions.{Formed};
 ghost use Rattle.log_format.specs.Fits.{log_number};

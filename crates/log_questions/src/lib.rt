@@ -1,5 +1,7 @@
 // Question 19: are lent bytes a log for the book that is given? Its length and its first 12 bytes, the held book, the bytes that are not
 // used, and the cuts of all entries together.
+#![tactic(auto)]
+
 ghost use Rattle.std.specs.Prelude.{◌&&◌, ◌≡◌, ℕ, ◌+◌, ◌*◌, ◌≤◌, length, take, replicate};
 ghost use Rattle.std.proofs.lemmas.List.Edits.{sets};
 ghost use Rattle.book_format.specs.Book.{count_of_trades, trades_at, trades_of};

@@ -1,5 +1,7 @@
 // The cuts of a log's entry given back in the bytes of a book: what stands of each trade rises by its cut, the seller's position falls and
 // the buyer's rises by it.
+#![tactic(auto)]
+
 ghost use Rattle.std.specs.Prelude.{◌≡◌, ◌≤◌, T, length};
 ghost use Rattle.book_format.specs.Book.{book_of, count_of_trades, trades_at, users_of};
 ghost use Rattle.book_format.specs.Held.{Accepted, HeldAs};

@@ -1,5 +1,7 @@
 // Who bears whose risk, by places, and what follows from it for the trades of a book: the places of those who bear the risk of the trades'
 // parties, and the twelve sums of what stands at these.
+#![tactic(auto)]
+
 ghost use Rattle.std.specs.Prelude.{true, List, ◌≡◌, ◌+◌, ◌-◌, ◌≤◌, ◌<◌, ◌^◌, get_or, length, replicate, set};
 ghost use Rattle.book_format.specs.Book.{count_of_trades, trades_at, trades_of, count_of_users, users_of, version_of};
 ghost use Rattle.book_format.specs.Held.{Accepted};

@@ -1,5 +1,7 @@
 // What a user holds in an area, the need that this leaves, and what the need, a short or a long position is worth. Only a price turns
 // energy into money.
+#![tactic(auto)]
+
 ghost use Rattle.std.specs.Prelude.{[], ◌∷◌, ◌≡◌, ◌≤◌, ◌*◌, ◌<◌, ◌^◌};
 ghost use Rattle.base.specs.Parts.{pos_part, neg_part};
 ghost use Rattle.rules.specs.Areas.{reference_price_of, selling_tariff_of};
@@ -11,7 +13,7 @@ ghost use Rattle.risk_holdings.specs.Holdings.{as_holding, HoldingWithin};
 use units::{Area, Cents, Energy, Net, Prices};
 
 // What a user holds in one area: physical entry and position, sold and bought for d and for d+1.
-#[derive(Drop)]
+#[derive(Clone, Copy)]
 pub struct Holding {
     pub physical: Net,
     pub position: Net,
@@ -109,7 +111,7 @@ pub fn long_worth(prices: Prices, area: u8, position: Net) -> Cents
 }
 
 // What a user holds in the three areas.
-#[derive(Drop)]
+#[derive(Clone, Copy)]
 pub struct Holdings {
     pub pvb: Holding,
     pub tvb: Holding,

@@ -1,7 +1,10 @@
 // The levels of a user, from its charges, its holdings, the prices and the limits; whether it is flagged, called in, and above the margin.
+#![tactic(auto)]
+
 ghost use Rattle.std.specs.Prelude.{◌||◌, ◌≡◌, ◌*◌, ◌≤◌, ◌^◌, min, pos, ◌+ℤ◌, ◌-ℤ◌};
 ghost use Rattle.rules.specs.Book.{User};
-ghost use Rattle.rules.specs.Levels.{exposure, credit, morning_sum, afternoon_sum, lowest_reference_price, floored, flagged_from, exceeds_its_margin};
+ghost use Rattle.rules.specs.Levels.{exposure, credit, morning_sum, afternoon_sum, lowest_reference_price};
+ghost use Rattle.rules.specs.Levels.{floored, flagged_from, exceeds_its_margin};
 ghost use Rattle.units.specs.Amounts.{balance};
 ghost use Rattle.units.specs.Prices.{as_prices, InRange};
 ghost use Rattle.units.specs.Limits.{as_limits, LimitsInRange};

@@ -1,5 +1,7 @@
 // What one user holds with its members, as its risk is borne, for who asks it of one user alone: the sums over those whose risk it bears.
 // In a version without managers they are those of its record and its own sums.
+#![tactic(auto)]
+
 ghost use Rattle.std.specs.Prelude.{true, ◌≡◌, ℕ, ◌+◌, ◌-◌, ◌≤◌, ◌<◌, ◌^◌, eqb, get_or};
 ghost use Rattle.book_format.specs.Book.{trades_of, count_of_users, users_of, version_of};
 ghost use Rattle.book_format.specs.Held.{Accepted};

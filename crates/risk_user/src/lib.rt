@@ -1,6 +1,8 @@
 // What is read of one user: its record, its money, its holdings and positions; and its level, called in, target and state, asked of these.
 // The money is read from the bytes of a book; positions, and what was sold and bought, from arrays with three positions and twelve sums for
 // each place, so that a run asks it of the book that it has come to as well.
+#![tactic(auto)]
+
 ghost use Rattle.std.specs.Prelude.{◌≡◌, ◌≤◌, ◌<◌, ◌^◌, get_or, ◌||◌};
 ghost use Rattle.rules.specs.Book.{at, nobody};
 ghost use Rattle.rules.specs.Levels.{exceeds_its_margin};
@@ -143,7 +145,7 @@ pub fn holdings_at(
 // ---- level, called in and target
 
 // The limits and the prices of a day.
-#[derive(Drop)]
+#[derive(Clone, Copy)]
 pub struct Day {
     pub limits: Limits,
     pub prices: Prices,
@@ -225,7 +227,7 @@ pub fn target_at(
 // ---- the state
 
 // What a user is: a clearing house, short of cover, called in with a guarantee that suffices, or none of these.
-#[derive(Drop)]
+#[derive(Clone, Copy)]
 pub enum State {
     Clear,
     Short,

@@ -1,5 +1,7 @@
 // The run of a book in its bytes, by arrays: they are filled in from the opening book, the run goes on in them, and what its sales have
 // lost is taken off in the bytes at the end.
+#![tactic(auto)]
+
 ghost use Rattle.std.specs.Prelude.{◌≡◌, ◌≤◌, length, take};
 ghost use Rattle.book_format.specs.Book.{book_of};
 ghost use Rattle.book_parties.specs.Ids.{BookIn};

@@ -1,5 +1,7 @@
 // A run with a log: its reductions, one after another, each noted in the log; it stops where one more is due and the log is full. It is the
 // run of `run_turns` and `run_book` with a note between two reductions, so that a run without a log does not ask for one at each.
+#![tactic(auto)]
+
 ghost use Rattle.std.specs.Prelude.{◌≡◌, ◌≤◌, length};
 ghost use Rattle.book_format.specs.Book.{book_of, count_of_users};
 ghost use Rattle.book_parties.specs.Ids.{BookIn};
@@ -15,7 +17,7 @@ use cut_worth::Totals;
 use risk_user::Day;
 
 // What a run with a log gives: its totals, how many entries the log has then, and whether one more reduction is due.
-#[derive(Drop)]
+#[derive(Clone, Copy)]
 pub struct Noted {
     pub totals: Totals,
     pub count: usize,

@@ -1,5 +1,7 @@
 // The positions of a run's users in an array, three for each place: filled in from the bytes of the opening book, and moved by the cut of a
 // sale.
+#![tactic(auto)]
+
 ghost use Rattle.std.specs.Prelude.{◌≡◌, ◌+◌, ◌*◌, ◌-◌, ◌≤◌, ◌<◌, ◌^◌, ltb, get_or, length, true};
 ghost use Rattle.book_format.specs.Book.{count_of_users, users_of, version_of};
 ghost use Rattle.book_format.specs.Held.{Accepted};

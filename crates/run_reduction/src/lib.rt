@@ -1,5 +1,7 @@
 // One reduction on arrays, of a run and of a single user alike: the cuts of the sales from..to of the user at a place, taken off what
 // stands, and the positions that they move.
+#![tactic(auto)]
+
 ghost use Rattle.std.specs.Prelude.{List, map, ◌≡◌, ◌+◌, ◌*◌, ◌-◌, ◌≤◌, ◌<◌, ◌^◌, get_or, length, set};
 ghost use Rattle.std.proofs.lemmas.List.Edits.{sets};
 ghost use Rattle.cut_tiers.specs.Tiers.{NoCuts, Takeable, cuts_of};

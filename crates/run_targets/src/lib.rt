@@ -1,4 +1,6 @@
 // Who owes a guarantee in a run, and how much: the targets before the first reduction, and after each those of the users that it touched.
+#![tactic(auto)]
+
 ghost use Rattle.std.specs.Prelude.{false, cond, ◌≡◌, ◌≤◌, min, ltb, get_or, length, set};
 ghost use Rattle.book_format.specs.Book.{book_of, users_of};
 ghost use Rattle.book_format.specs.Places.{UserIn};

@@ -1,5 +1,7 @@
 // The reductions of a run, one after another, on arrays: the book that the run has come to stands in them, and the bytes hold the opening
 // book throughout.
+#![tactic(auto)]
+
 ghost use Rattle.std.specs.Prelude.{◌≡◌, ◌+◌, ◌≤◌, ◌<◌, get_or, length, true, false};
 ghost use Rattle.book_format.specs.Book.{book_of, count_of_users};
 ghost use Rattle.rules.specs.Book.{Book};
@@ -21,7 +23,7 @@ mod long;
 // ---- one reduction
 
 // What a reduction of a run gives: its tally, and a place before which nobody has become due.
-#[derive(Drop)]
+#[derive(Clone, Copy)]
 pub struct Reduced {
     pub tally: Tally,
     pub least: usize,
@@ -187,7 +189,7 @@ fn is_kept(starts: &[usize; 65], place: usize, reductions: u64) -> bool
 }
 
 // Where a run stands between two reductions: its totals so far, and the place of the user that is due next, n where nobody is.
-#[derive(Drop)]
+#[derive(Clone, Copy)]
 pub struct Stage {
     pub totals: Totals,
     pub place: usize,

@@ -21,7 +21,7 @@ use units::Prices;
 // ---- one reduction
 
 // What a reduction of a long run gives: its tally, a place before which nobody has become due, and what is kept for the next.
-#[derive(Drop)]
+#[derive(Clone, Copy)]
 pub struct LongTurn {
     pub tally: Tally,
     pub least: usize,

@@ -1,6 +1,8 @@
 // Return of retained shrinkage: half of a negative total of the users' balances goes back to the users whose own balance is negative, in
 // proportion to it, over 30 days. A balance is a number of kWh with a sign. The public functions are `shrinkage_return` and `over_days`;
 // they take any balances and any share, and no book.
+#![tactic(auto)]
+
 ghost use Rattle.std.specs.Prelude.{◌≡◌, ◌*◌, ◌≤◌, ◌<◌, ◌^◌, length};
 ghost use Rattle.base.specs.Parts.{pos_part, neg_part};
 ghost use Rattle.shrinkage.specs.Return.{returned, nothing};
@@ -8,13 +10,13 @@ ghost use Rattle.shrinkage.specs.Days.{value_on_day, values_over_days};
 ghost use Rattle.shrinkage.specs.Answer.{kwh_of, as_returned, SumsOf, Divisible, SharesOf};
 
 // An energy, in kWh.
-#[derive(Drop)]
+#[derive(Clone, Copy)]
 pub struct Kwh(pub u64);
 
 // ---- balances
 
 // What a balance is above 0, and what it is below 0: one of the two is 0.
-#[derive(Drop)]
+#[derive(Clone, Copy)]
 struct Sides {
     above: Kwh,
     below: Kwh,
@@ -40,7 +42,7 @@ impl Sides {
 }
 
 // Whether all balances are in range, and then what they sum to above 0 and below 0.
-#[derive(Drop)]
+#[derive(Clone, Copy)]
 struct Sums {
     in_range: bool,
     above: Kwh,
@@ -79,7 +81,7 @@ fn sums_of(balances: &[i64]) -> Sums
 // ---- shares
 
 // The share and the remainder of each user, in the user's place, and what all shares give.
-#[derive(Drop)]
+#[derive(Clone, Copy)]
 struct Shares {
     shares: [Kwh; 64],
     remainders: [u64; 64],
@@ -125,7 +127,7 @@ fn shares_of(balances: &[i64], half: Kwh, sum: Kwh) -> Shares
 
 // Half of the total's absolute value, the odd kWh, the users' shares with the remainders of their divisions, and the rest of the half,
 // which stays in the system account; 0 for a total of 0 or above, and in every field but the number where the number is not 0.
-#[derive(Drop)]
+#[derive(Clone, Copy)]
 pub struct ShrinkageReturn {
     pub number: u32,
     pub half: Kwh,

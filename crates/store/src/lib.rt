@@ -1,5 +1,7 @@
 // The store of parameter sets, in any bytes: is it well formed, which of its sets is in force on a book's date, and the figures that a call
 // takes from it.
+#![tactic(auto)]
+
 ghost use Rattle.std.specs.Prelude.{◌≡◌, ◌+◌, ◌*◌, ◌≤◌, length};
 ghost use Rattle.std.proofs.Math.Option.{some};
 ghost use Rattle.rules.specs.Levels.{today};
@@ -11,14 +13,14 @@ use units::{Cents, Energy, Limits};
 
 // A parameter set: its figures, and the first date on which they are in force. They are as the bytes have them: whether they are valid is
 // asked apart.
-#[derive(Drop)]
+#[derive(Clone, Copy)]
 pub struct ParameterSet {
     pub first: u32,
     pub limits: Limits,
 }
 
 // What a store gives a call: the number of the first question that it fails, 0 where it fails none, and the figures.
-#[derive(Drop)]
+#[derive(Clone, Copy)]
 pub struct Figures {
     pub number: u32,
     pub limits: Limits,

@@ -1,6 +1,8 @@
 // Energy, money and prices, each with its own type; signed amounts of energy and money; the prices of a day and the areas that they hold
 // in; the limits of the rules. A signed amount is kept as an unsigned number, the amount + an offset, and every contract speaks of the
 // integer itself.
+#![tactic(auto)]
+
 ghost use Rattle.std.specs.Prelude.{◌≡◌, true, ◌+◌, ◌-◌, ◌*◌, ◌≤◌, ◌<◌, ◌^◌, ltb, pos, ◌+ℤ◌, ◌-ℤ◌};
 ghost use Rattle.base.specs.Parts.{pos_part, neg_part};
 ghost use Rattle.rules.specs.Areas.{tariff, reference_price_of, selling_tariff_of};
@@ -25,7 +27,7 @@ fn excess(a: u64, b: u64) -> u64
 }
 
 // An energy, in MWh. Energies are added to energies alone, and taken from them.
-#[derive(Drop)]
+#[derive(Clone, Copy)]
 pub struct Energy(pub u64);
 
 impl Energy {
@@ -46,7 +48,7 @@ impl Energy {
 }
 
 // The energy of a trade, in MWh: one that fits the 32 bits of its record.
-#[derive(Drop)]
+#[derive(Clone, Copy)]
 pub struct Mwh(pub u32);
 
 impl Mwh {
@@ -75,7 +77,7 @@ impl Mwh {
 }
 
 // A sum of money, in cents. Money is added to money alone, taken from it and compared with it.
-#[derive(Drop)]
+#[derive(Clone, Copy)]
 pub struct Cents(pub u64);
 
 impl Cents {
@@ -103,7 +105,7 @@ impl Cents {
 }
 
 // Cents for each MWh.
-#[derive(Drop)]
+#[derive(Clone, Copy)]
 pub struct Price(pub u32);
 
 impl Price {
@@ -120,7 +122,7 @@ impl Price {
 }
 
 // An energy with a sign, in MWh: kept as the energy + 2^31.
-#[derive(Drop)]
+#[derive(Clone, Copy)]
 pub struct Net(pub u32);
 
 impl Net {
@@ -210,7 +212,7 @@ impl Net {
 }
 
 // Money with a sign, in cents: kept as the money + 2^63.
-#[derive(Drop)]
+#[derive(Clone, Copy)]
 pub struct Balance(pub u64);
 
 impl Balance {
@@ -271,7 +273,7 @@ impl Balance {
 
 // The prices of a day, in cents per MWh: the tariffs P of PVB and Q of TVB and AVB, the tolls L for liquefaction, X for PVB exit and I for
 // injection, and the selling tariffs S of PVB and U of TVB and AVB, 0 in a version of the book that has none.
-#[derive(Drop)]
+#[derive(Clone, Copy)]
 pub struct Prices {
     pub p: u32,
     pub q: u32,
@@ -283,7 +285,7 @@ pub struct Prices {
 }
 
 // An area of trade, by its code.
-#[derive(Drop)]
+#[derive(Clone, Copy)]
 pub struct Area(pub u8);
 
 impl Area {
@@ -339,7 +341,7 @@ impl Area {
 
 // The three figures that the rules take as given: cents of a call, cents of the least level, MWh of a flag. The two that a store has in 64
 // bits each stand first: they are moved together.
-#[derive(Drop)]
+#[derive(Clone, Copy)]
 pub struct Limits {
     pub margin: Cents,
     pub floor: Cents,

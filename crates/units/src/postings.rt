@@ -7,7 +7,7 @@ ghost use Rattle.units.specs.Amounts.{net};
 use crate::{Energy, Net};
 
 // The energy that a signed amount brings in, and the energy that it takes out: one of the two is 0.
-#[derive(Drop)]
+#[derive(Clone, Copy)]
 pub struct Flow {
     pub inflow: Energy,
     pub outflow: Energy,
@@ -33,7 +33,7 @@ impl Flow {
 }
 
 // A posting: whether it is accepted, and the physical entry after it.
-#[derive(Drop)]
+#[derive(Clone, Copy)]
 pub struct Posted {
     pub accepted: bool,
     pub entry: Net,
