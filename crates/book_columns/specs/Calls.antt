@@ -1,5 +1,6 @@
 -- Document 02, ask 13: a book stored field by field, and "The inverse gives the book back, and accepts only the form that its book yields." Assumes nothing.
-use Rattle.base.specs.Basics.{List, [], ◌∷◌, ◌++◌, ℕ, leb, length}
+use Rattle.std.specs.Prelude.{◌∷◌, ◌++◌}
+use Rattle.base.specs.Basics.{List, [], ℕ, leb, length}
 use Rattle.rules.specs.Questions.{Question}
 use Rattle.book_format.specs.Questions.{about_bytes}
 use Rattle.outputs.specs.Output.{Output, written, written_after}

@@ -1,6 +1,7 @@
 -- Document 02, ask 13: "A book of any version is rearranged: its header with mark `GDF` in place of `GDB`, all ids, all roles, and so on through the user and then the
 -- trade fields (each area's number and each run of zero bytes is a field)." A version is its header's size and the widths of its fields. Assumes nothing.
-use Rattle.base.specs.Basics.{◌≡◌, Bool, true, false, cond, ◌&&◌, List, ◌++◌, ℕ, ◌+◌, ◌*◌, ◌≤◌, T, eqb, leb, length, take, drop}
+use Rattle.std.specs.Prelude.{◌≡◌, ◌&&◌, ◌++◌, ◌+◌, ◌*◌, ◌≤◌}
+use Rattle.base.specs.Basics.{Bool, true, false, cond, List, ℕ, T, eqb, leb, length, take, drop}
 use Rattle.rules.specs.Areas.{managers_in}
 use Rattle.rules.specs.Questions.{version_known}
 use Rattle.fields.specs.Field.{set_field}

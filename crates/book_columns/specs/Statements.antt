@@ -1,5 +1,6 @@
 -- Document 02, ask 13: "The inverse gives the book back, and accepts only the form that its book yields." Assumes nothing.
-use Rattle.base.specs.Basics.{◌≡◌, true, false, List, ℕ, ◌<◌, ◌≤◌, length}
+use Rattle.std.specs.Prelude.{◌≡◌, ◌<◌, ◌≤◌}
+use Rattle.base.specs.Basics.{true, false, List, ℕ, length}
 use Rattle.fields.specs.Field.{AllBytes}
 use Rattle.book_format.specs.Questions.{book_number}
 use Rattle.outputs.specs.Output.{accepted, refused}

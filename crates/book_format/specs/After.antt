@@ -1,5 +1,6 @@
 -- What the contracts of the inner calls say, whose opening questions are answered already, by their number. Assumes nothing.
-use Rattle.base.specs.Basics.{◌≡◌, List, ℕ}
+use Rattle.std.specs.Prelude.{◌≡◌}
+use Rattle.base.specs.Basics.{List, ℕ}
 use Rattle.rules.specs.Calls.{Answer, Call, call_after}
 use Rattle.rules.specs.Levels.{Limits}
 use Rattle.book_format.specs.Steps.{in_bytes}

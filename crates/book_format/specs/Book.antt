@@ -1,5 +1,6 @@
 -- Document 01, "The book in bytes", with versions 2 and 3 of document 02's asks 3 and 5: the book that bytes hold, and the bytes of a book. The sizes by version are said here, a record's fields in `book_records`. Assumes nothing.
-use Rattle.base.specs.Basics.{cond, List, [], ◌∷◌, ◌++◌, ℕ, ◌+◌, ◌*◌, length, drop}
+use Rattle.std.specs.Prelude.{◌∷◌, ◌++◌, ◌+◌, ◌*◌}
+use Rattle.base.specs.Basics.{cond, List, [], ℕ, length, drop}
 use Rattle.rules.specs.Areas.{Prices, managers_in, selling_in}
 use Rattle.rules.specs.Book.{User, Trade, Book}
 use Rattle.fields.specs.Field.{field}

@@ -1,5 +1,6 @@
 -- A book held in bytes: the bytes are the book's, and read as it. Assumes nothing.
-use Rattle.base.specs.Basics.{◌≡◌, List, ℕ}
+use Rattle.std.specs.Prelude.{◌≡◌}
+use Rattle.base.specs.Basics.{List, ℕ}
 use Rattle.book_format.specs.Book.{book_of, bytes_of}
 use Rattle.book_format.specs.Questions.{Formed}
 use Rattle.laws.specs.Sound.{Sound}

@@ -1,5 +1,6 @@
 -- Bytes with a header, and with a user, or a trade, at a place. Assumes nothing.
-use Rattle.base.specs.Basics.{◌≡◌, List, ℕ, ◌+◌, ◌*◌, ◌<◌, ◌≤◌, length}
+use Rattle.std.specs.Prelude.{◌≡◌, ◌+◌, ◌*◌, ◌<◌, ◌≤◌}
+use Rattle.base.specs.Basics.{List, ℕ, length}
 use Rattle.book_format.specs.Book.{size_of_header, count_of_trades, trades_at, place_of_user, count_of_users, version_of}
 use Rattle.book_format.specs.Questions.{Formed}
 

@@ -1,5 +1,6 @@
 -- Document 01, "The questions" that every call asks, of any bytes: those of the rules, and beside them the mark, the length and the zero bytes. Assumes nothing.
-use Rattle.base.specs.Basics.{◌≡◌, Bool, ◌&&◌, List, [], ◌∷◌, ◌++◌, ℕ, ◌*◌, ◌+◌, ◌≤◌, T, leb, eqb, length, drop}
+use Rattle.std.specs.Prelude.{◌≡◌, ◌&&◌, ◌∷◌, ◌++◌, ◌*◌, ◌+◌, ◌≤◌}
+use Rattle.base.specs.Basics.{Bool, List, [], ℕ, T, leb, eqb, length, drop}
 use Rattle.fields.specs.Layout.{records_of}
 use Rattle.book_format.specs.Book.{size_of_header, size_of_user, trade_size, mark, mark_of, version_of, count_of_users, count_of_trades, trades_at, length_of, users_of, trades_of, book_of}
 use Rattle.book_records.specs.Trade.{trade_zeros}

@@ -1,5 +1,6 @@
 -- The form of a book in bytes, and the place of a user in it. Assumes nothing.
-use Rattle.base.specs.Basics.{cond, List, [], ◌∷◌, ℕ, suc, eqb}
+use Rattle.std.specs.Prelude.{◌∷◌}
+use Rattle.base.specs.Basics.{cond, List, [], ℕ, suc, eqb}
 use Rattle.rules.specs.Book.{User}
 use Rattle.rules.specs.Calls.{Form}
 use Rattle.book_format.specs.Book.{book_of, bytes_of}

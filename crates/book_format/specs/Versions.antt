@@ -1,5 +1,6 @@
 -- Document 02's ask 3, "version 1 keeps its reading", of bytes; and version 2 keeps its own. Assumes nothing.
-use Rattle.base.specs.Basics.{◌≡◌, false, List, ℕ, ◌+◌, ◌*◌}
+use Rattle.std.specs.Prelude.{◌≡◌, ◌+◌, ◌*◌}
+use Rattle.base.specs.Basics.{false, List, ℕ}
 use Rattle.fields.specs.Layout.{pack}
 use Rattle.rules.specs.Areas.{managers_in}
 use Rattle.rules.specs.Book.{Book, User}

@@ -1,5 +1,6 @@
 -- Records of one size as records of another: what the other has no room for is cut off, what it has more is 0. Assumes nothing.
-use Rattle.base.specs.Basics.{List, ◌++◌, ℕ, ◌-◌, length, replicate, take}
+use Rattle.std.specs.Prelude.{◌++◌, ◌-◌}
+use Rattle.base.specs.Basics.{List, ℕ, length, replicate, take}
 use Rattle.fields.specs.Layout.{records_of, bytes_of_records}
 
 -- bytes as so many

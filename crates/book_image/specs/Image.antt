@@ -1,6 +1,7 @@
 -- An image is the fields of a book in 9,512 bytes, whatever its version and counts: a header of 40 bytes, then 64 users of 68 bytes and 256
 -- trades in the book's format. Where the parts of an image stand is said here alone. Assumes nothing.
-use Rattle.base.specs.Basics.{◌≡◌, List, ◌++◌, ℕ, ◌+◌, ◌-◌, ◌*◌, length, take, drop, replicate}
+use Rattle.std.specs.Prelude.{◌≡◌, ◌++◌, ◌+◌, ◌-◌, ◌*◌}
+use Rattle.base.specs.Basics.{List, ℕ, length, take, drop, replicate}
 use Rattle.rules.specs.Questions.{after, refusal}
 use Rattle.book_format.specs.Book.{version_of, count_of_users, size_of_header, trades_at, size_of_user}
 use Rattle.book_format.specs.Questions.{about_bytes, book_number}

@@ -1,5 +1,6 @@
 -- The book of an image's fields: of its header and its users' records those that its version has, of its 64 users and 256 trades those up to the counts. Assumes nothing.
-use Rattle.base.specs.Basics.{◌≡◌, List, ℕ, ◌≤◌, length, take, drop}
+use Rattle.std.specs.Prelude.{◌≡◌, ◌≤◌}
+use Rattle.base.specs.Basics.{List, ℕ, length, take, drop}
 use Rattle.rules.specs.Book as model
 use Rattle.fields.specs.Layout.{records_of}
 use Rattle.book_records.specs.User.{user_of}

@@ -1,5 +1,6 @@
 -- Records in bytes from an offset; the ids of users, and the place of an id among them. Assumes nothing.
-use Rattle.base.specs.Basics.{◌≡◌, Bool, cond, List, [], ◌∷◌, map, ℕ, suc, ◌-◌, ◌<◌, ◌≤◌, eqb, ltb, length, take, drop, get_or, replicate}
+use Rattle.std.specs.Prelude.{◌≡◌, ◌∷◌, ◌-◌, ◌<◌, ◌≤◌}
+use Rattle.base.specs.Basics.{Bool, cond, List, [], map, ℕ, suc, eqb, ltb, length, take, drop, get_or, replicate}
 use Rattle.base.specs.Lists.{any}
 use Rattle.rules.specs.Book.{User, Terms, Trade, nobody}
 use Rattle.fields.specs.Layout.{records_of}

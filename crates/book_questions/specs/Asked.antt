@@ -1,5 +1,6 @@
 -- The questions 5 to 7 as the code asks them, of users and trades; and what bytes are that were asked all questions. Assumes nothing.
-use Rattle.base.specs.Basics.{◌≡◌, Bool, cond, ◌&&◌, ◌||◌, List, [], ◌∷◌, ℕ, ◌+◌, ◌*◌, ◌≤◌, T, eqb, length, take}
+use Rattle.std.specs.Prelude.{◌≡◌, ◌&&◌, ◌||◌, ◌∷◌, ◌+◌, ◌*◌, ◌≤◌}
+use Rattle.base.specs.Basics.{Bool, cond, List, [], ℕ, T, eqb, length, take}
 use Rattle.rules.specs.Book.{User, Trade, manager_in}
 use Rattle.base.specs.Lists.{all}
 use Rattle.rules.specs.Questions.{refusal, managers_are_valid, manages, users_are_valid, trade_is_valid, positions_are_valid}

@@ -1,5 +1,6 @@
 -- What the opening questions give a call where none of them refuses: a book that passes 1 to 7, and what the call takes with it. Assumes nothing.
-use Rattle.base.specs.Basics.{◌≡◌, List, ℕ, length}
+use Rattle.std.specs.Prelude.{◌≡◌}
+use Rattle.base.specs.Basics.{List, ℕ, length}
 use Rattle.book_format.specs.Book.{users_of, trades_of}
 use Rattle.book_format.specs.Held.{Accepted}
 use Rattle.book_format.specs.Questions.{book_number}

@@ -1,5 +1,6 @@
 -- A trade in 20 bytes, in the rules, and as the code's struct. Assumes nothing.
-use Rattle.base.specs.Basics.{List, [], ◌∷◌, ℕ, ◌<◌, ◌^◌}
+use Rattle.std.specs.Prelude.{◌∷◌, ◌<◌, ◌^◌}
+use Rattle.base.specs.Basics.{List, [], ℕ}
 use Rattle.rules.specs.Book as model
 use Rattle.fields.specs.Field.{field}
 use Rattle.fields.specs.Layout.{pack}

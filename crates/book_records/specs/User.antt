@@ -1,5 +1,6 @@
 -- A user in 56 bytes, with its managers in 68, in the rules, and as the code's struct. Assumes nothing.
-use Rattle.base.specs.Basics.{Bool, cond, List, [], ◌∷◌, ◌++◌, ℕ, ◌+◌, ◌*◌, ◌<◌, ◌≤◌, ◌^◌, ℤ, get_or, replicate}
+use Rattle.std.specs.Prelude.{◌∷◌, ◌++◌, ◌+◌, ◌*◌, ◌<◌, ◌≤◌, ◌^◌}
+use Rattle.base.specs.Basics.{Bool, cond, List, [], ℕ, ℤ, get_or, replicate}
 use Rattle.base.specs.Parts.{pos_part, neg_part}
 use Rattle.rules.specs.Signed.{signed_of, bits_of}
 use Rattle.rules.specs.Book.{PerArea, Managers, unmanaged}

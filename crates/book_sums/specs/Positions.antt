@@ -1,5 +1,6 @@
 -- Positions by what was sold and bought. Assumes nothing.
-use Rattle.base.specs.Basics.{◌≡◌, Bool, ◌&&◌, List, ℕ, ◌+◌, ◌*◌, ℤ, pos, ◌+ℤ◌, ◌-ℤ◌, get_or}
+use Rattle.std.specs.Prelude.{◌≡◌, ◌&&◌, ◌+◌, ◌*◌, ◌+ℤ◌, ◌-ℤ◌}
+use Rattle.base.specs.Basics.{Bool, List, ℕ, ℤ, pos, get_or}
 use Rattle.rules.specs.Book.{User, Trade, at}
 use Rattle.base.specs.Lists.{all}
 use Rattle.rules.specs.Questions.{eqb_ℤ, positions_are_valid}

@@ -1,5 +1,6 @@
 -- What trades give to the sum of a user in an area for a day, by the places of their parties. Assumes nothing.
-use Rattle.base.specs.Basics.{Bool, cond, ◌&&◌, List, [], ◌∷◌, map, ℕ, ◌+◌, eqb, ltb}
+use Rattle.std.specs.Prelude.{◌&&◌, ◌∷◌, ◌+◌}
+use Rattle.base.specs.Basics.{Bool, cond, List, [], map, ℕ, eqb, ltb}
 use Rattle.rules.specs.Book.{Terms, Trade}
 use Rattle.book_parties.specs.Ids.{among, place_in}
 

@@ -1,6 +1,7 @@
 -- Twelve sums for each user, kept one after the other: 12·place + 6·side + 3·day + area, what was sold (side 0) and bought (side 1) for d and for d+1 in the
 -- three areas. Assumes nothing.
-use Rattle.base.specs.Basics.{◌≡◌, List, ℕ, ◌+◌, ◌*◌, ◌≤◌, ◌<◌, length, get_or, set}
+use Rattle.std.specs.Prelude.{◌≡◌, ◌+◌, ◌*◌, ◌≤◌, ◌<◌}
+use Rattle.base.specs.Basics.{List, ℕ, length, get_or, set}
 use Rattle.rules.specs.Book.{Trade, User, nobody, sold, bought}
 use Rattle.book_sums.specs.Sums.{given_by}
 

@@ -1,5 +1,6 @@
 -- The book of the rules that a struct is, and what a struct holds into which bytes were read. Assumes nothing.
-use Rattle.base.specs.Basics.{◌≡◌, cond, false, List, map, ℕ, ◌-◌, length, take, drop, replicate}
+use Rattle.std.specs.Prelude.{◌≡◌, ◌-◌}
+use Rattle.base.specs.Basics.{cond, false, List, map, ℕ, length, take, drop, replicate}
 use Rattle.rules.specs.Areas.{Prices, managers_in, selling_in}
 use Rattle.rules.specs.Book as model
 use Rattle.units.specs.Prices.{as_prices}

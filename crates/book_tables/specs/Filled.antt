@@ -1,5 +1,6 @@
 -- Arrays into which records were read. Assumes nothing.
-use Rattle.base.specs.Basics.{◌≡◌, List, map, ℕ, ◌-◌, length, take, drop, replicate}
+use Rattle.std.specs.Prelude.{◌≡◌, ◌-◌}
+use Rattle.base.specs.Basics.{List, map, ℕ, length, take, drop, replicate}
 use Rattle.fields.specs.Layout.{records_of}
 
 -- an array into which n records were read: what they are is what the bytes hold, and the rest is blank

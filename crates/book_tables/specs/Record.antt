@@ -1,5 +1,6 @@
 -- A user's record as the code's struct: the user, and its managers. Assumes nothing.
-use Rattle.base.specs.Basics.{◌≡◌, ℕ, eqb}
+use Rattle.std.specs.Prelude.{◌≡◌}
+use Rattle.base.specs.Basics.{ℕ, eqb}
 use Rattle.book_records.specs.User.{as_user, blank_user, record_size}
 use Rattle.rules.specs.Book as model
 use Rattle.book_tables.specs.declared.Managers.{Managers}

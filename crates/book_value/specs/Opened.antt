@@ -1,5 +1,6 @@
 -- What bytes are that were asked the questions, with the book that they hold as a struct. Assumes nothing.
-use Rattle.base.specs.Basics.{◌≡◌, List, ℕ}
+use Rattle.std.specs.Prelude.{◌≡◌}
+use Rattle.base.specs.Basics.{List, ℕ}
 use Rattle.book_format.specs.Questions.{book_number}
 use Rattle.book_tables.specs.declared.Book.{Book}
 use Rattle.book_tables.specs.Book.{BookRead, blank_book}

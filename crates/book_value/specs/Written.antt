@@ -1,6 +1,7 @@
 -- What writing a book gives: "Writing is refused with the first question that the bytes so written would fail, a part of another length failing question 3; the part is
 -- then unchanged." Assumes nothing.
-use Rattle.base.specs.Basics.{◌≡◌, Bool, ◌&&◌, List, ◌∷◌, ℕ, ◌≤◌, T, leb, eqb, length}
+use Rattle.std.specs.Prelude.{◌≡◌, ◌&&◌, ◌∷◌, ◌≤◌}
+use Rattle.base.specs.Basics.{Bool, List, ℕ, T, leb, eqb, length}
 use Rattle.rules.specs.Book as model
 use Rattle.rules.specs.Questions.{Question, after, refusal, version_known}
 use Rattle.book_format.specs.Book.{bytes_of, length_by}

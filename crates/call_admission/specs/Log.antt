@@ -1,5 +1,6 @@
 -- Question 19, asked of a lent log where it is given, after the other opening questions. Assumes nothing.
-use Rattle.base.specs.Basics.{◌≡◌, Bool, true, List, ℕ, T}
+use Rattle.std.specs.Prelude.{◌≡◌}
+use Rattle.base.specs.Basics.{Bool, true, List, ℕ, T}
 use Rattle.log_format.specs.Fits.{log_fits, log_number}
 use Rattle.store.specs.Store.{given}
 use Rattle.rules.specs.Questions.{first_of}

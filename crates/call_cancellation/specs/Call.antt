@@ -1,5 +1,6 @@
 -- What a cancellation gives past the user's id. Assumes nothing.
-use Rattle.base.specs.Basics.{[], ◌∷◌, ◌++◌, ℕ}
+use Rattle.std.specs.Prelude.{◌∷◌, ◌++◌}
+use Rattle.base.specs.Basics.{[], ℕ}
 use Rattle.rules.specs.Book.{Book, User}
 use Rattle.rules.specs.Calls.{eligible_trade}
 use Rattle.rules.specs.Levels.{Limits}

@@ -1,5 +1,6 @@
 -- A user of a book in bytes whose eligible trades are looked for, and their worths. Assumes nothing.
-use Rattle.base.specs.Basics.{◌≡◌, Bool, List, ℕ, ◌-◌, ◌<◌, ◌^◌, take}
+use Rattle.std.specs.Prelude.{◌≡◌, ◌-◌, ◌<◌, ◌^◌}
+use Rattle.base.specs.Basics.{Bool, List, ℕ, take}
 use Rattle.cut_sets.specs.Found.{Given}
 use Rattle.cut_sets.specs.Places.{count_of, worths_of}
 use Rattle.book_format.specs.Book.{count_of_trades, trades_at, count_of_users}

@@ -1,5 +1,6 @@
 -- A book that is rebuilt from its form in a room for the longest book. Assumes nothing.
-use Rattle.base.specs.Basics.{◌≡◌, Bool, List, ℕ, ◌+◌, ◌*◌, ◌≤◌, T, length, take}
+use Rattle.std.specs.Prelude.{◌≡◌, ◌+◌, ◌*◌, ◌≤◌}
+use Rattle.base.specs.Basics.{Bool, List, ℕ, T, length, take}
 use Rattle.book_columns.specs.Form.{book_from, yields}
 
 -- the bytes of the longest book: a header of 40 bytes, 64 users, 256 trades

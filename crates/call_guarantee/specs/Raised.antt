@@ -1,5 +1,6 @@
 -- How a guarantee call ends: its last questions, and what they leave. Assumes nothing.
-use Rattle.base.specs.Basics.{Bool, List, [], ◌∷◌, ℕ, ◌-◌, get_or, sets}
+use Rattle.std.specs.Prelude.{◌∷◌, ◌-◌}
+use Rattle.base.specs.Basics.{Bool, List, [], ℕ, get_or, sets}
 use Rattle.rules.specs.Book.{User, nobody}
 use Rattle.rules.specs.Levels.{Limits}
 use Rattle.rules.specs.Questions.{Question, after, refusal}

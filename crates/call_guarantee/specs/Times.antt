@@ -1,5 +1,6 @@
 -- The question 11 and the call of a time of the day: the afternoon's where it is yes, else the morning's. Assumes nothing.
-use Rattle.base.specs.Basics.{Bool, true, false, ◌&&◌, ℕ}
+use Rattle.std.specs.Prelude.{◌&&◌}
+use Rattle.base.specs.Basics.{Bool, true, false, ℕ}
 use Rattle.rules.specs.Book.{Book, User}
 use Rattle.rules.specs.Levels.{Limits, called_in, exceeds_its_margin}
 use Rattle.rules.specs.Calls.{Call, morning_call_of, afternoon_call_of}

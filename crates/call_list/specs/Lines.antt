@@ -1,5 +1,6 @@
 -- A list of postings after its opening questions: what is known before its lines, and what they leave. Assumes nothing.
-use Rattle.base.specs.Basics.{◌≡◌, List, ℕ, ℤ, length, take}
+use Rattle.std.specs.Prelude.{◌≡◌}
+use Rattle.base.specs.Basics.{List, ℕ, ℤ, length, take}
 use Rattle.book_format.specs.Book.{size_of_header, count_of_users, size_of_user, users_of, version_of}
 use Rattle.book_format.specs.Questions.{book_number}
 use Rattle.book_parties.specs.Ids.{Padded, ids_of}

@@ -1,5 +1,6 @@
 -- A posting on one user's physical entry and position, and the call that the public function is. Assumes nothing.
-use Rattle.base.specs.Basics.{◌≡◌, Bool, true, List, ℕ, ℤ, ◌+ℤ◌}
+use Rattle.std.specs.Prelude.{◌≡◌, ◌+ℤ◌}
+use Rattle.base.specs.Basics.{Bool, true, List, ℕ, ℤ}
 use Rattle.rules.specs.Signed.{bits_of, signed_of, within}
 use Rattle.rules.specs.Calls.{Call, only, posting}
 use Rattle.rules.specs.Levels.{Limits}

@@ -1,5 +1,6 @@
 -- The questions 9, 11 and 13 of a reduction, the one that refuses a user in each state, and the target where none does. Assumes nothing.
-use Rattle.base.specs.Basics.{◌≡◌, List, [], ◌∷◌, ℕ}
+use Rattle.std.specs.Prelude.{◌≡◌, ◌∷◌}
+use Rattle.base.specs.Basics.{List, [], ℕ}
 use Rattle.rules.specs.Book.{Book, User}
 use Rattle.rules.specs.Calls.{assigned_falls_short, called_in_beyond_margin, is_shipper}
 use Rattle.rules.specs.Day.{State, clear, short, call, quiet}

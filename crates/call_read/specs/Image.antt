@@ -1,5 +1,6 @@
 -- Document 02, ask 9: a book read into an image by an acting party. "All else is the operator's": a shipper may have its own record, not the book. Assumes nothing.
-use Rattle.base.specs.Basics.{◌≡◌, List, ℕ, replicate}
+use Rattle.std.specs.Prelude.{◌≡◌}
+use Rattle.base.specs.Basics.{List, ℕ, replicate}
 use Rattle.book_image.specs.Image.{image_of, image_size}
 use Rattle.rights.specs.Acting.{entering_number}
 use Rattle.rights.specs.Party.{Party, operators}

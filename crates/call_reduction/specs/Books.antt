@@ -1,5 +1,6 @@
 -- A user of a book in bytes that is reduced for an amount. Assumes nothing.
-use Rattle.base.specs.Basics.{◌≡◌, List, ℕ, ◌<◌, length}
+use Rattle.std.specs.Prelude.{◌≡◌, ◌<◌}
+use Rattle.base.specs.Basics.{List, ℕ, length}
 use Rattle.book_format.specs.Book.{count_of_users}
 use Rattle.book_parties.specs.Ids.{BookIn}
 use Rattle.risk_bearers.specs.Bearers.{RiskIn, users_in}

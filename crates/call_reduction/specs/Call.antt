@@ -1,5 +1,6 @@
 -- The call of the rules that the function `reduction` is, and its questions past the user's id with what they leave. Those of a log come last. Assumes nothing.
-use Rattle.base.specs.Basics.{◌≡◌, Bool, cond, List, [], ◌∷◌, ◌++◌, ℕ}
+use Rattle.std.specs.Prelude.{◌≡◌, ◌∷◌, ◌++◌}
+use Rattle.base.specs.Basics.{Bool, cond, List, [], ℕ}
 use Rattle.rules.specs.Book.{User}
 use Rattle.rules.specs.Questions.{Question, after, refusal}
 use Rattle.rules.specs.Levels.{Limits}

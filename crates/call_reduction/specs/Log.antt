@@ -1,5 +1,6 @@
 -- A reduction with a lent log, given or not. Assumes nothing.
-use Rattle.base.specs.Basics.{◌≡◌, Bool, true, false, cond, List, ◌∷◌, ℕ}
+use Rattle.std.specs.Prelude.{◌≡◌, ◌∷◌}
+use Rattle.base.specs.Basics.{Bool, true, false, cond, List, ℕ}
 use Rattle.book_format.specs.After.{CalledAfter}
 use Rattle.log_format.specs.Log.{entries_of, log_bytes}
 use Rattle.requests.specs.Logged.{GivesLogged}

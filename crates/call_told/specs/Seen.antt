@@ -1,5 +1,6 @@
 -- A trade that a party may see, by the places of its seller and its buyer. Assumes nothing.
-use Rattle.base.specs.Basics.{Bool, ◌||◌, List, ℕ, eqb, get_or}
+use Rattle.std.specs.Prelude.{◌||◌}
+use Rattle.base.specs.Basics.{Bool, List, ℕ, eqb, get_or}
 use Rattle.rules.specs.Book.{Trade, User, nobody}
 use Rattle.rules.specs.Bearers.{bearer}
 

@@ -1,5 +1,6 @@
 -- The user that flag and trades are told of, and a trade by ordinal, after the opening questions, by their number. Assumes nothing.
-use Rattle.base.specs.Basics.{◌≡◌, List, ℕ, ◌+◌}
+use Rattle.std.specs.Prelude.{◌≡◌, ◌+◌}
+use Rattle.base.specs.Basics.{List, ℕ}
 use Rattle.book_format.specs.Book.{book_of}
 use Rattle.call_entry.specs.Entered.{Found}
 use Rattle.rights.specs.Trades.{about_user, told_after, trade_of, trade_shown_at}

@@ -1,5 +1,6 @@
 -- Who is warned, by the user's id. Assumes nothing.
-use Rattle.base.specs.Basics.{◌≡◌, Bool, ◌&&◌, List, ℕ, eqb}
+use Rattle.std.specs.Prelude.{◌≡◌, ◌&&◌}
+use Rattle.base.specs.Basics.{Bool, List, ℕ, eqb}
 use Rattle.rules.specs.Book.{Book, User, Trade}
 use Rattle.rules.specs.Levels.{Limits, shipper, flagged}
 use Rattle.rules.specs.Queries.{Query, warning, warns}

@@ -1,5 +1,6 @@
 -- Document 02, asks 7 and 9: the converter by an acting party, which is the operator's, and what is claimed of it; a party's calls on a converted book. Assumes nothing.
-use Rattle.base.specs.Basics.{◌≡◌, Option, none, List, ℕ}
+use Rattle.std.specs.Prelude.{◌≡◌}
+use Rattle.base.specs.Basics.{Option, none, List, ℕ}
 use Rattle.rules.specs.Queries.{Query}
 use Rattle.book_format.specs.Questions.{book_number}
 use Rattle.outputs.specs.Output.{Output, refused}

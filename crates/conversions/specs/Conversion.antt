@@ -1,5 +1,6 @@
 -- Document 02, ask 7: "A converter writes any version as any version." Assumes nothing.
-use Rattle.base.specs.Basics.{Bool, ◌&&◌, ◌||◌, List, [], ◌∷◌, ◌++◌, ℕ, eqb, leb, length}
+use Rattle.std.specs.Prelude.{◌&&◌, ◌||◌, ◌∷◌, ◌++◌}
+use Rattle.base.specs.Basics.{Bool, List, [], ℕ, eqb, leb, length}
 use Rattle.rules.specs.Areas.{Prices, managers_in, selling_in}
 use Rattle.rules.specs.Book.{Book, User, manager_in}
 use Rattle.base.specs.Lists.{all}

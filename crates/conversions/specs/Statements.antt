@@ -1,6 +1,7 @@
 -- Document 02, ask 7: "Converting up and back gives the first bytes. Going from 1 to 2 or 3 no level, call, warning, reduction or run without a log may answer otherwise."
 -- Both hold of every version and every target to which no information is lost. Assumes nothing.
-use Rattle.base.specs.Basics.{◌≡◌, false, true, Option, none, List, ℕ, ◌<◌, ◌≤◌, T, length}
+use Rattle.std.specs.Prelude.{◌≡◌, ◌<◌, ◌≤◌}
+use Rattle.base.specs.Basics.{false, true, Option, none, List, ℕ, T, length}
 use Rattle.rules.specs.Questions.{version_known}
 use Rattle.rules.specs.Queries.{Query}
 use Rattle.fields.specs.Field.{AllBytes}

@@ -1,5 +1,6 @@
 -- Trades of a book that are cut at their places. Assumes nothing.
-use Rattle.base.specs.Basics.{◌≡◌, cond, List, [], ◌∷◌, map, ℕ, ◌+◌, ◌≤◌, ◌<◌, min, T, ltb, get_or, length, set}
+use Rattle.std.specs.Prelude.{◌≡◌, ◌∷◌, ◌+◌, ◌≤◌, ◌<◌}
+use Rattle.base.specs.Basics.{cond, List, [], map, ℕ, min, T, ltb, get_or, length, set}
 use Rattle.book_format.specs.Book.{book_of, trades_of, users_of}
 use Rattle.book_format.specs.Held.{HeldAs}
 use Rattle.book_format.specs.Places.{TradeIn}

@@ -1,5 +1,6 @@
 -- A flag for each user, by its place. Assumes nothing.
-use Rattle.base.specs.Basics.{◌≡◌, Bool, false, List, ℕ, ◌<◌, length, get_or}
+use Rattle.std.specs.Prelude.{◌≡◌, ◌<◌}
+use Rattle.base.specs.Basics.{Bool, false, List, ℕ, length, get_or}
 use Rattle.book_parties.specs.Ids.{id_at}
 use Rattle.laws_sales.specs.Parties.{cut_before}
 use Rattle.rules.specs.Book.{Trade, User}

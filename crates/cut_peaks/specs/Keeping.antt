@@ -1,5 +1,6 @@
 -- What is kept of a seller between two reductions, and the cuts of a reduction that are told by it. Assumes nothing.
-use Rattle.base.specs.Basics.{◌≡◌, Bool, true, false, cond, List, [], ◌∷◌, ℕ, ◌+◌, ◌-◌, ◌≤◌, ◌<◌, max, min, length, get_or, sets}
+use Rattle.std.specs.Prelude.{◌≡◌, ◌∷◌, ◌+◌, ◌-◌, ◌≤◌, ◌<◌}
+use Rattle.base.specs.Basics.{Bool, true, false, cond, List, [], ℕ, max, min, length, get_or, sets}
 use Rattle.cut_tiers.specs.Tiers.{cuts_of, rates_for, short_by}
 use Rattle.cut_worth.specs.Rates.{lots_in, rated}
 use Rattle.laws_sales.specs.Parts.{part}

@@ -1,5 +1,6 @@
 -- The sales of a tier that stand highest, in a part of the sales: where they stand, and their cuts of one MWh each. Assumes nothing.
-use Rattle.base.specs.Basics.{◌≡◌, Bool, cond, not, List, ℕ, ◌+◌, ◌*◌, ◌≤◌, ◌<◌, length, get_or}
+use Rattle.std.specs.Prelude.{◌≡◌, ◌+◌, ◌*◌, ◌≤◌, ◌<◌}
+use Rattle.base.specs.Basics.{Bool, cond, not, List, ℕ, length, get_or}
 use Rattle.cut_worth.specs.Rates.{Sales, lots_in, rated}
 use Rattle.laws_sales.specs.Parts.{part}
 use Rattle.rules.specs.Shares.{cuts_of_tier, tier_worth}

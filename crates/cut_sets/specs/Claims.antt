@@ -1,5 +1,6 @@
 -- Document 02, ask 8: what is claimed of a search. Assumes nothing.
-use Rattle.base.specs.Basics.{◌≡◌, ◌⊎◌, Bool, true, ◌||◌, List, ℕ, ◌+◌, ◌-◌, ◌^◌, ◌≤◌, ◌<◌, T, eqb, length}
+use Rattle.std.specs.Prelude.{◌≡◌, ◌⊎◌, ◌||◌, ◌+◌, ◌-◌, ◌^◌, ◌≤◌, ◌<◌}
+use Rattle.base.specs.Basics.{Bool, true, List, ℕ, T, eqb, length}
 use Rattle.base.specs.Sums.{sum}
 use Rattle.cut_sets.specs.Sets.{worth_of_set}
 use Rattle.cut_sets.specs.Search.{Search, whole_search}

@@ -1,5 +1,6 @@
 -- The count from below: counting down from all trades, the sets left out count up, and what is left of the search gives the whole. Assumes nothing.
-use Rattle.base.specs.Basics.{◌≡◌, ◌⊎◌, true, false, List, ℕ, ◌+◌, ◌-◌, ◌^◌, ◌%◌, ◌≤◌, ◌<◌, length, get_or}
+use Rattle.std.specs.Prelude.{◌≡◌, ◌⊎◌, ◌+◌, ◌-◌, ◌^◌, ◌%◌, ◌≤◌, ◌<◌}
+use Rattle.base.specs.Basics.{true, false, List, ℕ, length, get_or}
 use Rattle.base.specs.Sums.{sum}
 use Rattle.cut_sets.specs.declared.Best.{Best}
 use Rattle.cut_sets.specs.Sets.{worth_of_set}

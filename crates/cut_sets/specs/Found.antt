@@ -1,5 +1,6 @@
 -- The answer of the code, told in the words of the search. Assumes nothing.
-use Rattle.base.specs.Basics.{◌≡◌, Bool, ◌&&◌, ◌||◌, List, ℕ, ◌+◌, ◌*◌, ◌-◌, ◌^◌, ◌≤◌, ◌<◌, eqb, leb, ltb, length, take, get_or}
+use Rattle.std.specs.Prelude.{◌≡◌, ◌&&◌, ◌||◌, ◌+◌, ◌*◌, ◌-◌, ◌^◌, ◌≤◌, ◌<◌}
+use Rattle.base.specs.Basics.{Bool, List, ℕ, eqb, leb, ltb, length, take, get_or}
 use Rattle.base.specs.Sums.{sum}
 use Rattle.cut_sets.specs.declared.Found.{Found}
 use Rattle.cut_sets.specs.declared.Best.{Best}

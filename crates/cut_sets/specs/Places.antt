@@ -1,5 +1,6 @@
 -- Document 02, ask 8: "a set of whole eligible trades" among all trades, by trade place, and the search among these sets. Assumes nothing.
-use Rattle.base.specs.Basics.{Bool, true, false, not, cond, ◌&&◌, ◌||◌, List, [], ◌∷◌, map, ℕ, ◌+◌, ◌-◌, ◌^◌, leb}
+use Rattle.std.specs.Prelude.{◌&&◌, ◌||◌, ◌∷◌, ◌+◌, ◌-◌, ◌^◌}
+use Rattle.base.specs.Basics.{Bool, true, false, not, cond, List, [], map, ℕ, leb}
 use Rattle.base.specs.Sums.{sum}
 use Rattle.cut_sets.specs.Sets.{marked_worth}
 use Rattle.cut_sets.specs.Search.{Search, searched}

@@ -1,6 +1,7 @@
 -- Document 02, ask 8: "sets are tried counting down from all trades to the empty set, that one too, until the tries are spent,
 -- an excess of 0 is met or none is left." Assumes nothing.
-use Rattle.base.specs.Basics.{Bool, true, cond, ◌&&◌, List, ℕ, zero, suc, ◌-◌, ◌^◌, eqb, leb, ltb, length}
+use Rattle.std.specs.Prelude.{◌&&◌, ◌-◌, ◌^◌}
+use Rattle.base.specs.Basics.{Bool, true, cond, List, ℕ, zero, suc, eqb, leb, ltb, length}
 use Rattle.cut_sets.specs.Sets.{worth_of_set}
 
 -- a set that reaches the target, and what it exceeds it by

@@ -1,5 +1,6 @@
 -- The cuts of a tier of a part of the sales, added to an array in which the tier has none yet; the cut of one sale, and the shares between two turns. Assumes nothing.
-use Rattle.base.specs.Basics.{◌≡◌, ◌⊎◌, cond, List, [], ◌∷◌, map, ℕ, ◌+◌, ◌*◌, ◌-◌, ◌/◌, ◌%◌, ◌≤◌, ◌<◌, ltb, length, get_or, set, sets}
+use Rattle.std.specs.Prelude.{◌≡◌, ◌⊎◌, ◌∷◌, ◌+◌, ◌*◌, ◌-◌, ◌/◌, ◌%◌, ◌≤◌, ◌<◌}
+use Rattle.base.specs.Basics.{cond, List, [], map, ℕ, ltb, length, get_or, set, sets}
 use Rattle.cut_worth.specs.Rates.{rate_in, rates_in, lots_in}
 use Rattle.rules.specs.Reduction.{together}
 use Rattle.rules.specs.Shares.{Share, share_of}

@@ -1,5 +1,6 @@
 -- A tier of a part of the sales: what stands of each sale and its area, in two lists, and a rate for each area. Assumes nothing.
-use Rattle.base.specs.Basics.{◌≡◌, Bool, List, map, ℕ, ◌≤◌, ◌<◌, ltb, length, get_or}
+use Rattle.std.specs.Prelude.{◌≡◌, ◌≤◌, ◌<◌}
+use Rattle.base.specs.Basics.{Bool, List, map, ℕ, ltb, length, get_or}
 use Rattle.rules.specs.Shares.{Lot}
 use Rattle.laws_sales.specs.Sales.{standing_in}
 use Rattle.laws_sales.specs.Lots.{lots_of}

@@ -1,5 +1,6 @@
 -- What each kind of function leaves: its number, the lent part and the book. Assumes nothing.
-use Rattle.base.specs.Basics.{◌≡◌, Bool, not, Option, List, ℕ, eqb, ℤ, length}
+use Rattle.std.specs.Prelude.{◌≡◌}
+use Rattle.base.specs.Basics.{Bool, not, Option, List, ℕ, eqb, ℤ, length}
 use Rattle.rules.specs.Calls.{Answer}
 use Rattle.rules.specs.Queries.{Query, Reply, shown_record}
 use Rattle.rules.specs.Questions.{after, refusal}

@@ -1,5 +1,6 @@
 -- A part lent by a caller in C has a length of the caller's: one of another length than the function asks for gets the number 255, and nothing is changed. Assumes nothing.
-use Rattle.base.specs.Basics.{◌≡◌, cond, List, ℕ, eqb, length}
+use Rattle.std.specs.Prelude.{◌≡◌}
+use Rattle.base.specs.Basics.{cond, List, ℕ, eqb, length}
 
 -- the number for a lent part of another length than the function asks for
 abbrev pub wrong_length : ℕ

@@ -1,5 +1,6 @@
 -- The numbers that an answer is in a lent part, in their order. Assumes nothing.
-use Rattle.base.specs.Basics.{Bool, cond, List, [], ◌∷◌, ℕ, length}
+use Rattle.std.specs.Prelude.{◌∷◌}
+use Rattle.base.specs.Basics.{Bool, cond, List, [], ℕ, length}
 use Rattle.rules.specs.Calls.{Answer}
 use Rattle.rules.specs.Queries.{Reply}
 use Rattle.rights.specs.Trades.{Told}

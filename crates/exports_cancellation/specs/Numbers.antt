@@ -1,5 +1,6 @@
 -- The numbers that a whole cancellation is in two lent parts, in their order. Assumes nothing.
-use Rattle.base.specs.Basics.{List, [], ◌∷◌, map, ℕ}
+use Rattle.std.specs.Prelude.{◌∷◌}
+use Rattle.base.specs.Basics.{List, [], map, ℕ}
 use Rattle.requests.specs.Cancellation.{Cancellation}
 use Rattle.exports_answers.specs.Numbers.{bit}
 

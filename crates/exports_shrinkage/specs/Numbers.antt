@@ -1,5 +1,6 @@
 -- The numbers that a return is in a lent part, in their order. Assumes nothing.
-use Rattle.base.specs.Basics.{List, ◌∷◌, ◌++◌, ℕ}
+use Rattle.std.specs.Prelude.{◌∷◌, ◌++◌}
+use Rattle.base.specs.Basics.{List, ℕ}
 use Rattle.shrinkage.specs.Return.{Returned}
 
 -- three amounts, then the shares and the remainders of 64 users

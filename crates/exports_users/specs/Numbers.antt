@@ -1,5 +1,6 @@
 -- The numbers that the levels of all users are in a lent part, in their order. Assumes nothing.
-use Rattle.base.specs.Basics.{List, [], ◌∷◌, ◌++◌, ℕ}
+use Rattle.std.specs.Prelude.{◌∷◌, ◌++◌}
+use Rattle.base.specs.Basics.{List, [], ℕ}
 use Rattle.rules.specs.Day.{State, call, clear, quiet, short}
 use Rattle.user_levels.specs.Levels.{AllLevels, UserLevels}
 

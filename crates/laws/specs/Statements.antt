@@ -1,5 +1,6 @@
 -- The main laws of the rules, as statements. Each holds for every book, user, amount and set of limits; the proofs stand in proofs/Main.antt.
-use Rattle.base.specs.Basics.{◌≡◌, not, Memᴰ, ◌*◌, ◌+◌, ◌<◌, ◌^◌, ◌≤◌, max, min, ℕ, T, pos, ◌+ℤ◌}
+use Rattle.std.specs.Prelude.{◌≡◌, ◌*◌, ◌+◌, ◌<◌, ◌^◌, ◌≤◌, ◌+ℤ◌}
+use Rattle.base.specs.Basics.{not, Memᴰ, max, min, ℕ, T, pos}
 use Rattle.base.specs.Parts.{pos_part}
 use Rattle.base.specs.Sums.{sum, sum_ℤ}
 use Rattle.laws.specs.Books.{anew}

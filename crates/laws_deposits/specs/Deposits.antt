@@ -1,7 +1,8 @@
 -- What deposit stops the cuts, as statements. A deposit raises the assigned guarantee, which no call changes: so it is made before a run, to stop it. Each statement holds for every
 -- book, amounts and set of limits, of every version: of a group only the assigned guarantee of who bears its risk counts, since nobody else is short of cover for it. None but
 -- the last asks for an accepted book. The proofs stand in proofs/Deposits.antt.
-use Rattle.base.specs.Basics.{◌≡◌, Bool, cond, ◌&&◌, none, Memᴰ, map, ℕ, ◌+◌, ◌<◌, T, leb}
+use Rattle.std.specs.Prelude.{◌≡◌, ◌&&◌, ◌+◌, ◌<◌}
+use Rattle.base.specs.Basics.{Bool, cond, none, Memᴰ, map, ℕ, T, leb}
 use Rattle.base.specs.Lists.{all}
 use Rattle.laws.specs.Statements.{AllCovered}
 use Rattle.rules.specs.Book.{Book, User}

@@ -1,5 +1,6 @@
 -- Document 02, ask 5: what the rules say of groups in an accepted book, in the words of the ask. Each holds for every book, user, area and trade; the proofs stand in proofs/Main.antt.
-use Rattle.base.specs.Basics.{◌≡◌, false, ℕ, ◌<◌, T, pos, get_or, length}
+use Rattle.std.specs.Prelude.{◌≡◌, ◌<◌}
+use Rattle.base.specs.Basics.{false, ℕ, T, pos, get_or, length}
 use Rattle.laws.proofs.Members.{members_sum}
 use Rattle.laws.specs.Statements.{own_holding}
 use Rattle.laws_sales.specs.Borne.{OwnRisk}

@@ -1,6 +1,7 @@
 -- A book as its risk is borne: each user with the sums over itself and its members, each trade between those who bear the risk of its parties. What the rules say of a book with
 -- managers they say of this one without. Assumes nothing.
-use Rattle.base.specs.Basics.{◌≡◌, Bool, not, cond, ◌&&◌, ◌||◌, List, map, ℕ, ◌<◌, T, eqb, leb, ltb, length, get_or}
+use Rattle.std.specs.Prelude.{◌≡◌, ◌&&◌, ◌||◌, ◌<◌}
+use Rattle.base.specs.Basics.{Bool, not, cond, List, map, ℕ, T, eqb, leb, ltb, length, get_or}
 use Rattle.laws.specs.Statements.{own_holding}
 use Rattle.rules.specs.Bearers.{as_borne, borne_sum}
 use Rattle.rules.specs.Book.{Book, PerArea, Trade, User, bilateral_for_day, find, nobody}

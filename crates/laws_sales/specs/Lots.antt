@@ -1,5 +1,6 @@
 -- A tier as the code has it: the standing amounts and the tariffs of its trades, in two lists. Assumes nothing.
-use Rattle.base.specs.Basics.{List, [], ◌∷◌, ℕ}
+use Rattle.std.specs.Prelude.{◌∷◌}
+use Rattle.base.specs.Basics.{List, [], ℕ}
 use Rattle.rules.specs.Shares.{Lot}
 
 -- the trades of a tier, as many as the shorter list has

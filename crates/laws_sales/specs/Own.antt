@@ -1,5 +1,6 @@
 -- Whose sale a trade is: for the user of an id a test of the trade's terms, and what laws ask of such tests. Assumes nothing.
-use Rattle.base.specs.Basics.{◌≡◌, Bool, false, ◌&&◌, List, ℕ, T, ltb}
+use Rattle.std.specs.Prelude.{◌≡◌, ◌&&◌}
+use Rattle.base.specs.Basics.{Bool, false, List, ℕ, T, ltb}
 use Rattle.rules.specs.Book.{Book, Trade, User, bilateral_for_day}
 use Rattle.base.specs.Lists.{any}
 use Rattle.rules.specs.Reduction.{eligible}

@@ -1,5 +1,6 @@
 -- Tests of the trades of the user of an id. Assumes nothing.
-use Rattle.base.specs.Basics.{Bool, ◌&&◌, ◌||◌, List, ℕ, eqb, ltb}
+use Rattle.std.specs.Prelude.{◌&&◌, ◌||◌}
+use Rattle.base.specs.Basics.{Bool, List, ℕ, eqb, ltb}
 use Rattle.base.specs.Lists.{any}
 use Rattle.rules.specs.Book.{Trade}
 

@@ -1,5 +1,6 @@
 -- What a reduction of a user for an amount does to a book, said of the user's own sales alone. Assumes nothing.
-use Rattle.base.specs.Basics.{◌≡◌, Bool, ◌||◌, List, map, ℕ, take}
+use Rattle.std.specs.Prelude.{◌≡◌, ◌||◌}
+use Rattle.base.specs.Basics.{Bool, List, map, ℕ, take}
 use Rattle.laws_sales.specs.Parties.{cut_before}
 use Rattle.laws.specs.Trades.{Lowered, Pairwise}
 use Rattle.rules.specs.Book.{Book, User, Trade}

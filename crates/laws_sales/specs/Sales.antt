@@ -1,5 +1,6 @@
 -- A user's own sales, which alone a reduction of the user cuts, and the cuts of such a list of sales. Assumes nothing.
-use Rattle.base.specs.Basics.{Bool, false, not, cond, ◌&&◌, ◌||◌, List, [], ◌∷◌, map, ℕ, ◌-◌, eqb, ltb, pos, neg_ℤ, get_or, set}
+use Rattle.std.specs.Prelude.{◌&&◌, ◌||◌, ◌∷◌, ◌-◌}
+use Rattle.base.specs.Basics.{Bool, false, not, cond, List, [], map, ℕ, eqb, ltb, pos, neg_ℤ, get_or, set}
 use Rattle.base.specs.Parts.{neg_part}
 use Rattle.rules.specs.Areas.{Prices}
 use Rattle.rules.specs.Book.{at, User, Trade, bilateral_for_day, nobody}

@@ -1,5 +1,6 @@
 -- Trades that are lowered by their cuts. Assumes nothing.
-use Rattle.base.specs.Basics.{◌≡◌, List, map, ℕ}
+use Rattle.std.specs.Prelude.{◌≡◌}
+use Rattle.base.specs.Basics.{List, map, ℕ}
 use Rattle.rules.specs.Reduction.{cut_all}
 use Rattle.book_records.specs.declared.Trade.{Trade}
 use Rattle.book_records.specs.Trade.{as_trade}

@@ -1,5 +1,6 @@
 -- A blocked guarantee that is raised to a level, alone and in a user's record. Assumes nothing.
-use Rattle.base.specs.Basics.{◌≡◌, ℕ, ◌+◌, ◌-◌}
+use Rattle.std.specs.Prelude.{◌≡◌, ◌+◌, ◌-◌}
+use Rattle.base.specs.Basics.{ℕ}
 use Rattle.rules.specs.Changes.{blocked_to}
 use Rattle.units.specs.declared.Cents.{Cents}
 use Rattle.book_records.specs.declared.User.{User}

@@ -1,5 +1,6 @@
 -- Entries of a log as they are written: cuts at the places of their trades. Assumes nothing.
-use Rattle.base.specs.Basics.{◌≡◌, List, [], ◌∷◌, ◌++◌, ℕ, ◌≤◌, ◌<◌, length, get_or, take, drop, set, replicate, sets}
+use Rattle.std.specs.Prelude.{◌≡◌, ◌∷◌, ◌++◌, ◌≤◌, ◌<◌}
+use Rattle.base.specs.Basics.{List, [], ℕ, length, get_or, take, drop, set, replicate, sets}
 use Rattle.laws_sales.specs.Parts.{part}
 use Rattle.fields.specs.Layout.{Every}
 use Rattle.log_format.specs.Log.{entries_at, entries_bytes, entries_room, entry_at, entry_bytes, entry_size, held_room, log_head, log_size, padded}

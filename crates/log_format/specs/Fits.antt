@@ -1,5 +1,6 @@
 -- Document 02, ask 6: question 19, when a log is one for the book that is given; and the start of a log. Assumes nothing.
-use Rattle.base.specs.Basics.{◌≡◌, Bool, true, false, cond, ◌&&◌, ◌||◌, Option, none, some, List, [], ◌∷◌, ℕ, zero, suc, ◌+◌, ◌-◌, ◌*◌, eqb, leb}
+use Rattle.std.specs.Prelude.{◌≡◌, ◌&&◌, ◌||◌, ◌∷◌, ◌+◌, ◌-◌, ◌*◌}
+use Rattle.base.specs.Basics.{Bool, true, false, cond, Option, none, some, List, [], ℕ, zero, suc, eqb, leb}
 use Rattle.base.specs.Basics.{length, take, drop, replicate}
 use Rattle.base.specs.Lists.{all}
 use Rattle.rules.specs.Book.{Trade, bilateral_for_day}

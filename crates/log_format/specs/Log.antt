@@ -1,5 +1,6 @@
 -- Document 02, ask 6: the log of reductions in bytes. What bytes of it hold, and the bytes of entries and a held book. Assumes nothing.
-use Rattle.base.specs.Basics.{List, [], ◌∷◌, ◌++◌, ℕ, zero, suc, ◌+◌, ◌-◌, ◌*◌, length, take, drop, replicate}
+use Rattle.std.specs.Prelude.{◌∷◌, ◌++◌, ◌+◌, ◌-◌, ◌*◌}
+use Rattle.base.specs.Basics.{List, [], ℕ, zero, suc, length, take, drop, replicate}
 use Rattle.fields.specs.Field.{field, to_bytes}
 use Rattle.fields.specs.Layout.{pack, records_of, bytes_of_records}
 use Rattle.book_format.specs.Book.{count_of_trades}

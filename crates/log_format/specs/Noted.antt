@@ -1,6 +1,7 @@
 -- Document 02, ask 6: what the calls do on a book with the entries of a log: "A reduction adds an entry, a run one for each of its own, a withdrawal drops the last, an
 -- accepted posting, list or guarantee call empties it"; and a run that meets a full log. Entries stand newest first. Assumes nothing.
-use Rattle.base.specs.Basics.{Bool, cond, Option, none, some, List, [], ◌∷◌, ℕ, zero, suc, ◌-◌, ltb, length}
+use Rattle.std.specs.Prelude.{◌∷◌, ◌-◌}
+use Rattle.base.specs.Basics.{Bool, cond, Option, none, some, List, [], ℕ, zero, suc, ltb, length}
 use Rattle.rules.specs.Book.{Book, User, find}
 use Rattle.rules.specs.Calls.{posting, morning_call_of, afternoon_call_of, reduction, run, Answer, Call, Result, effect, next_reduced, reduced, run_for}
 use Rattle.rules.specs.Levels.{Limits}

@@ -1,5 +1,6 @@
 -- The main laws of withdrawals and of runs with a log, as statements. Each holds for every book, entry and set of limits; the proofs stand in proofs/Main.antt.
-use Rattle.base.specs.Basics.{◌≡◌, none, List, ℕ, ◌+◌, ◌<◌, ◌≤◌, T, pos, neg_ℤ, length}
+use Rattle.std.specs.Prelude.{◌≡◌, ◌+◌, ◌<◌, ◌≤◌}
+use Rattle.base.specs.Basics.{none, List, ℕ, T, pos, neg_ℤ, length}
 use Rattle.base.specs.Sums.{sum_ℤ}
 use Rattle.laws.specs.Trades.{left_mwh, left_worth}
 use Rattle.rules.specs.Book.{Book, User, at}

@@ -1,5 +1,6 @@
 -- Document 02, ask 6: "We want the last reduction withdrawn; the call returns its MWh and worth." A book with the cuts of an entry given back. Assumes nothing.
-use Rattle.base.specs.Basics.{List, [], ◌∷◌, ℕ, ◌+◌}
+use Rattle.std.specs.Prelude.{◌∷◌, ◌+◌}
+use Rattle.base.specs.Basics.{List, [], ℕ}
 use Rattle.rules.specs.Book.{Book, Trade}
 use Rattle.rules.specs.Calls.{Answer, answer_of_run}
 use Rattle.rules.specs.Reduction.{Tally, nothing, tally_all, with_trades}

@@ -1,5 +1,6 @@
 -- A lent log, given or not: one that can be emptied, one that has room, and one that a reduction is noted in. Assumes nothing.
-use Rattle.base.specs.Basics.{◌≡◌, Bool, true, false, cond, List, ℕ, suc, ◌≤◌, ◌<◌, T, ltb, length}
+use Rattle.std.specs.Prelude.{◌≡◌, ◌≤◌, ◌<◌}
+use Rattle.base.specs.Basics.{Bool, true, false, cond, List, ℕ, suc, T, ltb, length}
 use Rattle.book_format.specs.Book.{count_of_trades}
 use Rattle.log_entries.specs.Entries.{Notable, NotedAt, sealed}
 use Rattle.log_format.specs.Fits.{log_fits}

@@ -1,5 +1,6 @@
 -- Bytes that have the form of a log, and sums of cuts by trade place. Assumes nothing.
-use Rattle.base.specs.Basics.{◌≡◌, List, ℕ, ◌≤◌, length, get_or, drop}
+use Rattle.std.specs.Prelude.{◌≡◌, ◌≤◌}
+use Rattle.base.specs.Basics.{List, ℕ, length, get_or, drop}
 use Rattle.fields.specs.Field.{field}
 use Rattle.fields.specs.Layout.{records_of}
 use Rattle.log_format.specs.Log.{cut_size, count_of_entries, held_length, held_room, log_size, most_entries}

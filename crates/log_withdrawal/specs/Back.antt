@@ -1,5 +1,6 @@
 -- Cuts given back at the places of the parties, and positions that they can move. Assumes nothing.
-use Rattle.base.specs.Basics.{List, ℕ, ◌≤◌, ◌<◌, pos, neg_ℤ, get_or, set}
+use Rattle.std.specs.Prelude.{◌≤◌, ◌<◌}
+use Rattle.base.specs.Basics.{List, ℕ, pos, neg_ℤ, get_or, set}
 use Rattle.book_format.specs.Book.{book_of, trades_of, count_of_users, users_of}
 use Rattle.book_format.specs.Held.{HeldAs}
 use Rattle.book_format.specs.Places.{TradeIn}

@@ -1,5 +1,6 @@
 -- Ask 12, "Corrections in another order", with the parties of ask 9: the same of postings and lists of any parties. Assumes nothing.
-use Rattle.base.specs.Basics.{◌≡◌, true, Option, List, [], ◌∷◌, ◌++◌, Permᴰ, map, ℕ, T, eqb, ℤ, ◌+ℤ◌}
+use Rattle.std.specs.Prelude.{◌≡◌, ◌∷◌, ◌++◌, ◌+ℤ◌}
+use Rattle.base.specs.Basics.{true, Option, List, [], Permᴰ, map, ℕ, T, eqb, ℤ}
 use Rattle.base.specs.Lists.{all}
 use Rattle.requests.specs.Request.{call, act_of}
 use Rattle.rights.specs.Acting.{CarriedBy}

@@ -1,6 +1,7 @@
 -- Ask 12, "Corrections in another order": of postings on a book in bytes, each given a store and a log of its own, or none, by the contract of the public function; of those of a
 -- sequence, which are all given one store; and of the lines of a list. Assumes nothing.
-use Rattle.base.specs.Basics.{◌≡◌, true, Option, List, [], ◌∷◌, ◌++◌, Permᴰ, map, ℕ, T, eqb, ℤ, ◌+ℤ◌}
+use Rattle.std.specs.Prelude.{◌≡◌, ◌∷◌, ◌++◌, ◌+ℤ◌}
+use Rattle.base.specs.Basics.{true, Option, List, [], Permᴰ, map, ℕ, T, eqb, ℤ}
 use Rattle.requests.specs.Carried.{Carried}
 use Rattle.requests.specs.Logged.{Posted}
 use Rattle.requests.specs.Request.{call, Act, act_of}

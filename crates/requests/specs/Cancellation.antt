@@ -1,5 +1,6 @@
 -- Document 02, ask 8: a whole cancellation in its setting. It asks and changes no book; what it gives on a book in bytes, and what is claimed of it. Assumes nothing.
-use Rattle.base.specs.Basics.{◌≡◌, Bool, true, false, cond, ◌&&◌, List, [], ◌∷◌, ◌++◌, map, ℕ, ◌+◌, ◌*◌, ◌-◌, ◌^◌, ◌≤◌, T, leb, length, replicate}
+use Rattle.std.specs.Prelude.{◌≡◌, ◌&&◌, ◌∷◌, ◌++◌, ◌+◌, ◌*◌, ◌-◌, ◌^◌, ◌≤◌}
+use Rattle.base.specs.Basics.{Bool, true, false, cond, List, [], map, ℕ, T, leb, length, replicate}
 use Rattle.base.specs.Sums.{sum}
 use Rattle.rules.specs.Areas.{tariff}
 use Rattle.rules.specs.Book.{Book, Trade, User, find}

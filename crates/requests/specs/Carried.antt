@@ -1,5 +1,6 @@
 -- What the contracts of the public calls and queries say of answer and bytes, and of what asks the opening questions for them; the log that is lent to calls is in Logged.antt. Assumes nothing.
-use Rattle.base.specs.Basics.{◌≡◌, List, [], ℕ, take, drop}
+use Rattle.std.specs.Prelude.{◌≡◌}
+use Rattle.base.specs.Basics.{List, [], ℕ, take, drop}
 use Rattle.rules.specs.Calls.{Answer}
 use Rattle.rules.specs.Levels.{Limits}
 use Rattle.rules.specs.Questions.{after}

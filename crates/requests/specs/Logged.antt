@@ -1,6 +1,7 @@
 -- The contracts of the public calls that a log is lent to, given or not, and of what asks their opening questions; calls with a log and withdrawals after those questions, by their number.
 -- Assumes nothing.
-use Rattle.base.specs.Basics.{◌≡◌, Option, none, some, List, [], ◌++◌, ℕ, ℤ, length}
+use Rattle.std.specs.Prelude.{◌≡◌, ◌++◌}
+use Rattle.base.specs.Basics.{Option, none, some, List, [], ℕ, ℤ, length}
 use Rattle.rules.specs.Calls.{Answer, Call, about, only}
 use Rattle.rules.specs.Levels.{Limits}
 use Rattle.rules.specs.Questions.{after, refusal}

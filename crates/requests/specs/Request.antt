@@ -1,6 +1,7 @@
 -- Document 02, asks 1, 4 and 6: a request is a call, a list of postings or a withdrawal with the store and the log that it is given, or none. What it gives is stated once, on a
 -- book in any form: the book itself, or its bytes. Assumes nothing.
-use Rattle.base.specs.Basics.{Bool, ◌&&◌, Option, none, some, List, [], ◌∷◌, ◌++◌, ℕ, eqb, leb, ℤ, length}
+use Rattle.std.specs.Prelude.{◌&&◌, ◌∷◌, ◌++◌}
+use Rattle.base.specs.Basics.{Bool, Option, none, some, List, [], ℕ, eqb, leb, ℤ, length}
 use Rattle.rules.specs.Book.{Book}
 use Rattle.rules.specs.Calls.{Answer, Call, Form, Result, about, call_after, itself, only, posting}
 use Rattle.rules.specs.Levels.{Limits}

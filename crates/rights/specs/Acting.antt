@@ -1,5 +1,6 @@
 -- Document 02, ask 9: a request, a query and a whole cancellation by an acting party, on a book in bytes. Assumes nothing.
-use Rattle.base.specs.Basics.{◌≡◌, List, ℕ, ◌+◌}
+use Rattle.std.specs.Prelude.{◌≡◌, ◌+◌}
+use Rattle.base.specs.Basics.{List, ℕ}
 use Rattle.rules.specs.Calls.{Answer}
 use Rattle.rules.specs.Queries.{Query, Reply, shown_record}
 use Rattle.rules.specs.Questions.{first_of}

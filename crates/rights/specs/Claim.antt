@@ -1,6 +1,7 @@
 -- Document 02, ask 9: "Over two books that pass the opening questions and agree on the header and, in book order, on what a party may see, its answers to the same call agree."
 -- Assumes nothing.
-use Rattle.base.specs.Basics.{◌≡◌, ◌⊎◌, false, true, List, ◌++◌, ℕ, suc, ◌<◌, ◌^◌}
+use Rattle.std.specs.Prelude.{◌≡◌, ◌⊎◌, ◌++◌, ◌<◌, ◌^◌}
+use Rattle.base.specs.Basics.{false, true, List, ℕ, suc}
 use Rattle.rules.specs.Queries.{Query, afternoon_level_of, morning_level_of, only_number, shown_record, warning}
 use Rattle.rules.specs.Questions.{Question}
 use Rattle.book_columns.specs.Calls.{stored}

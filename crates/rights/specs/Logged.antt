@@ -1,5 +1,6 @@
 -- Document 02, ask 9: the contracts of the public calls that a log is lent to, given or not, by an acting party. Every call that is given a log is the operator's. Assumes nothing.
-use Rattle.base.specs.Basics.{◌≡◌, Option, List, ℕ, ℤ, length}
+use Rattle.std.specs.Prelude.{◌≡◌}
+use Rattle.base.specs.Basics.{Option, List, ℕ, ℤ, length}
 use Rattle.rules.specs.Calls.{Answer, only}
 use Rattle.rules.specs.Questions.{after}
 use Rattle.requests.specs.Logged.{lent_log, list_with}

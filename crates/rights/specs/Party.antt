@@ -1,5 +1,6 @@
 -- Document 02, ask 9: "Every call on a book gains an acting party: the operator, or a shipper with an id". Who may do what. Assumes nothing.
-use Rattle.base.specs.Basics.{Bool, true, false, cond, ◌&&◌, ℕ, ◌^◌, eqb}
+use Rattle.std.specs.Prelude.{◌&&◌, ◌^◌}
+use Rattle.base.specs.Basics.{Bool, true, false, cond, ℕ, eqb}
 use Rattle.rules.specs.Book.{Book, find}
 use Rattle.rules.specs.Levels.{shipper}
 use Rattle.rules.specs.Queries.{Query, afternoon_level_of, morning_level_of, shown_record, warning}

@@ -1,5 +1,6 @@
 -- Document 02, ask 9: a book read into its fields. "All else is the operator's": a shipper may have its own record, not the book. Assumes nothing.
-use Rattle.base.specs.Basics.{◌≡◌, List, ℕ}
+use Rattle.std.specs.Prelude.{◌≡◌}
+use Rattle.base.specs.Basics.{List, ℕ}
 use Rattle.book_tables.specs.declared.Book.{Book}
 use Rattle.book_tables.specs.Book.{BookRead, blank_book}
 use Rattle.rights.specs.Acting.{entering_number}

@@ -1,5 +1,6 @@
 -- Document 02, ask 9: what a party may see of a book in bytes, record by record in book order. Assumes nothing.
-use Rattle.base.specs.Basics.{◌≡◌, List, ℕ, drop, take}
+use Rattle.std.specs.Prelude.{◌≡◌}
+use Rattle.base.specs.Basics.{List, ℕ, drop, take}
 use Rattle.book_format.specs.Book.{size_of_header, count_of_trades, trade_size, trades_at, count_of_users, size_of_user, users_of, version_of}
 use Rattle.book_format.specs.Questions.{parts_of}
 use Rattle.book_records.specs.Trade.{trade_of}

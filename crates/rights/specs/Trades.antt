@@ -1,6 +1,7 @@
 -- Document 02, ask 9: the flag of a user, "the count of the trades it may see and, by ordinal from 0 in book order, that trade's 20 bytes (an empty part past the last); flag
 -- and trades are new calls under questions 8 and 9". Asked by the operator of an id, they tell what that id may see. Assumes nothing.
-use Rattle.base.specs.Basics.{◌≡◌, Bool, cond, false, List, [], ◌∷◌, ℕ, ◌+◌, ◌*◌, ltb, get_or, length}
+use Rattle.std.specs.Prelude.{◌≡◌, ◌∷◌, ◌+◌, ◌*◌}
+use Rattle.base.specs.Basics.{Bool, cond, false, List, [], ℕ, ltb, get_or, length}
 use Rattle.rules.specs.Book.{Book, find}
 use Rattle.rules.specs.Calls.{id_known, is_shipper}
 use Rattle.rules.specs.Levels.{Limits, flagged}

@@ -1,5 +1,6 @@
 -- Who bears whose risk, by places, in a table: 3·place + area, for each user and area the place of who bears its risk there. Trades and users as their risk is borne by such a table. Assumes nothing.
-use Rattle.base.specs.Basics.{◌≡◌, List, ℕ, ◌+◌, ◌*◌, ◌<◌, length, take, get_or}
+use Rattle.std.specs.Prelude.{◌≡◌, ◌+◌, ◌*◌, ◌<◌}
+use Rattle.base.specs.Basics.{List, ℕ, length, take, get_or}
 use Rattle.book_format.specs.Book.{book_of, trades_of, count_of_users, users_of}
 use Rattle.book_format.specs.Held.{Accepted}
 use Rattle.book_parties.specs.Ids.{Padded, Placed, ids_of, place_in}

@@ -1,5 +1,6 @@
 -- Amounts of all users by place, three for each, each kept as the amount + 2^31; and their sums over those whose risk a user bears. Assumes nothing.
-use Rattle.base.specs.Basics.{◌≡◌, cond, List, ℕ, zero, suc, ◌+◌, ◌*◌, ◌≤◌, ◌<◌, ◌^◌, eqb, ltb, ℤ, pos, ◌+ℤ◌, length, get_or}
+use Rattle.std.specs.Prelude.{◌≡◌, ◌+◌, ◌*◌, ◌≤◌, ◌<◌, ◌^◌, ◌+ℤ◌}
+use Rattle.base.specs.Basics.{cond, List, ℕ, zero, suc, eqb, ltb, ℤ, pos, length, get_or}
 use Rattle.units.specs.Amounts.{net}
 use Rattle.risk_bearers.specs.Bearers.{BearersIn, bearer_in}
 

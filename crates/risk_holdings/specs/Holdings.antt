@@ -1,5 +1,6 @@
 -- The holdings of the rules that the code's structs are. Assumes nothing.
-use Rattle.base.specs.Basics.{List, ℕ, zero, suc, ◌≤◌, pos}
+use Rattle.std.specs.Prelude.{◌≤◌}
+use Rattle.base.specs.Basics.{List, ℕ, zero, suc, pos}
 use Rattle.rules.specs.Book.{at}
 use Rattle.rules.specs.Levels as rules
 use Rattle.units.specs.Amounts.{net}

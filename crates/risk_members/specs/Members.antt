@@ -1,5 +1,6 @@
 -- What the user at a place holds as its risk is borne, of a book with the sums of its users. Assumes nothing.
-use Rattle.base.specs.Basics.{◌≡◌, List, ℕ, ◌<◌, ◌^◌, get_or}
+use Rattle.std.specs.Prelude.{◌≡◌, ◌<◌, ◌^◌}
+use Rattle.base.specs.Basics.{List, ℕ, get_or}
 use Rattle.book_format.specs.Book.{book_of, users_of}
 use Rattle.risk_holdings.specs.Holdings.{HoldingsWithin, held_in}
 use Rattle.risk_holdings.specs.declared.Holdings.{Holdings}

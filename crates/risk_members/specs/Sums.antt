@@ -1,5 +1,6 @@
 -- Sums over the first users of those whose risk a user bears in an area. Assumes nothing.
-use Rattle.base.specs.Basics.{◌≡◌, true, cond, List, ℕ, ◌+◌, ◌*◌, ◌≤◌, ◌<◌, ◌^◌, eqb, pos, get_or, take}
+use Rattle.std.specs.Prelude.{◌≡◌, ◌+◌, ◌*◌, ◌≤◌, ◌<◌, ◌^◌}
+use Rattle.base.specs.Basics.{true, cond, List, ℕ, eqb, pos, get_or, take}
 use Rattle.base.specs.Sums.{sum, sum_ℤ}
 use Rattle.book_format.specs.Book.{trades_of, users_of}
 use Rattle.risk_holdings.specs.declared.Holding.{Holding}

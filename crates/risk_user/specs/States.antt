@@ -1,5 +1,6 @@
 -- The state of the rules that each state of the code is, and the state of a user by its level and by whether it is called in. Assumes nothing.
-use Rattle.base.specs.Basics.{Bool, cond, ◌&&◌, ℕ, leb}
+use Rattle.std.specs.Prelude.{◌&&◌}
+use Rattle.base.specs.Basics.{Bool, cond, ℕ, leb}
 use Rattle.rules.specs.Book.{User}
 use Rattle.rules.specs.Day as day
 use Rattle.rules.specs.Levels.{Limits, exceeds_its_margin, shipper, uncovered}

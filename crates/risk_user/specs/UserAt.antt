@@ -1,6 +1,7 @@
 -- What is read of the user at a place: the money of its record, what it sold and bought from twelve sums for each place, and the position from three for each place. The
 -- level, the flag and the target of these. Assumes nothing.
-use Rattle.base.specs.Basics.{◌≡◌, Bool, true, cond, List, [], ℕ, ◌+◌, ◌*◌, ◌-◌, ◌≤◌, ◌<◌, ◌^◌, ℤ, pos, length, get_or}
+use Rattle.std.specs.Prelude.{◌≡◌, ◌+◌, ◌*◌, ◌-◌, ◌≤◌, ◌<◌, ◌^◌}
+use Rattle.base.specs.Basics.{Bool, true, cond, List, [], ℕ, ℤ, pos, length, get_or}
 use Rattle.book_format.specs.Book.{users_of}
 use Rattle.rules.specs.Areas.{Prices}
 use Rattle.rules.specs.Book.{at, PerArea, User, nobody}

@@ -1,6 +1,7 @@
 -- Demand 3 for a caller in C: a call of the C interface that can change a book is a deed of a sequence, whoever makes it, and so has the sequence's claim; and ask 10, how long a run can
 -- be. By the contracts of `exports`, where the store and the log are `given` by a flag and a part. Assumes nothing.
-use Rattle.base.specs.Basics.{◌≡◌, Bool, not, Option, some, List, ◌∷◌, ℕ, ◌≤◌, T, ℤ, get_or, length}
+use Rattle.std.specs.Prelude.{◌≡◌, ◌∷◌, ◌≤◌}
+use Rattle.base.specs.Basics.{Bool, not, Option, some, List, ℕ, T, ℤ, get_or, length}
 use Rattle.book_format.specs.Book.{trades_of}
 use Rattle.exports.specs.Answers.{Answered}
 use Rattle.exports.specs.Lent.{wrong_length}
@@ -12,7 +13,7 @@ use Rattle.rights.specs.Logged.{LoggedBy, PostedBy}
 use Rattle.rights.specs.Party.{Party}
 use Rattle.rules.specs.Calls.{Answer, Call, cuttable, only, run}
 use Rattle.sequence.specs.Acting.{Deed, LinkedBy}
-use Rattle.sequence.specs.Contracts.{call_link, list_link, withdrawal_link}
+use Rattle.sequence.specs.ContractLinks.{call_link, list_link, withdrawal_link}
 use Rattle.sequence.specs.Links.{accepted_number}
 use Rattle.store.specs.Store.{given}
 

@@ -1,5 +1,6 @@
 -- Demand 2, "reading it and writing it back gives the same bytes", of the public contracts of `read` and `write`, and of those of the C interface; and the way back, from fields to bytes to fields. To read is the operator's. Assumes nothing.
-use Rattle.base.specs.Basics.{◌≡◌, List, ℕ, ◌<◌, ◌^◌, length}
+use Rattle.std.specs.Prelude.{◌≡◌, ◌<◌, ◌^◌}
+use Rattle.base.specs.Basics.{List, ℕ, length}
 use Rattle.fields.specs.Field.{AllBytes}
 use Rattle.fields.specs.Layout.{Every}
 use Rattle.rules.specs.Areas.{Prices}

@@ -1,6 +1,7 @@
 -- Document 01, "Units and areas". Energy is whole MWh, money whole euro cents, a price cents per MWh: all naturals here; signed amounts are integers.
 -- Areas: 0 PVB (pipeline hub), 1 TVB (LNG tank), 2 AVB (underground store).
-use Rattle.base.specs.Basics.{Bool, cond, ◌||◌, List, [], ◌∷◌, ℕ, ◌+◌, eqb}
+use Rattle.std.specs.Prelude.{◌||◌, ◌∷◌, ◌+◌}
+use Rattle.base.specs.Basics.{Bool, cond, List, [], ℕ, eqb}
 
 -- P is the daily buying imbalance tariff of PVB, Q that of TVB and AVB; L, X, I are the tolls for liquefaction, PVB exit and injection.
 -- S and U are, by document 02's ask 3, "the daily selling tariffs, S for PVB and U for the other two areas"; both 0 in a version that has none.

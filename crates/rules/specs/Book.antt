@@ -1,5 +1,6 @@
 -- Document 01, "The book in bytes": the fields of a book, and the position as it is defined. Amounts without a sign are naturals, those with a sign integers.
-use Rattle.base.specs.Basics.{Bool, cond, ◌&&◌, List, [], ◌∷◌, ℕ, zero, suc, eqb, ℤ, pos, ◌+ℤ◌, ◌-ℤ◌}
+use Rattle.std.specs.Prelude.{◌&&◌, ◌∷◌, ◌+ℤ◌, ◌-ℤ◌}
+use Rattle.base.specs.Basics.{Bool, cond, List, [], ℕ, zero, suc, eqb, ℤ, pos}
 use Rattle.base.specs.Sums.{sum}
 use Rattle.rules.specs.Areas.{Prices}
 

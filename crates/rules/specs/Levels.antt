@@ -1,5 +1,6 @@
 -- Document 01, "Levels and calls": what enters a user's level, the two levels, and who is flagged, called in and short of cover.
-use Rattle.base.specs.Basics.{Bool, not, cond, ◌&&◌, ◌||◌, ℕ, ◌+◌, ◌*◌, max, min, ltb, leb, eqb, ℤ, pos, neg_ℤ, ◌+ℤ◌, ◌-ℤ◌}
+use Rattle.std.specs.Prelude.{◌&&◌, ◌||◌, ◌+◌, ◌*◌, ◌+ℤ◌, ◌-ℤ◌}
+use Rattle.base.specs.Basics.{Bool, not, cond, ℕ, max, min, ltb, leb, eqb, ℤ, pos, neg_ℤ}
 use Rattle.base.specs.Parts.{pos_part, neg_part}
 use Rattle.base.specs.Sums.{sum}
 use Rattle.rules.specs.Areas.{Prices, areas, reference_price_of, selling_tariff_of}

@@ -1,6 +1,7 @@
 -- Document 01, "The questions": a refusal is the number of the first question that is answered by no; the questions 2 to 7 of a book.
 -- (Question 1, the length in question 3 and the zero bytes in questions 5 and 6 are asked of a book in bytes.)
-use Rattle.base.specs.Basics.{Bool, true, false, not, cond, ◌&&◌, ◌||◌, List, [], ◌∷◌, ℕ, ◌^◌, leb, ltb, eqb, ℤ, pos, negsuc, suc, zero}
+use Rattle.std.specs.Prelude.{◌&&◌, ◌||◌, ◌∷◌, ◌^◌}
+use Rattle.base.specs.Basics.{Bool, true, false, not, cond, List, [], ℕ, leb, ltb, eqb, ℤ, pos, negsuc, suc, zero}
 use Rattle.base.specs.Basics.{length}
 use Rattle.rules.specs.Areas.{Prices, selling_in, managers_in}
 use Rattle.rules.specs.Signed.{within}

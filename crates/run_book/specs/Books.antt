@@ -1,5 +1,6 @@
 -- The run of a book in bytes: what its sales lose, and what it gives. Assumes nothing.
-use Rattle.base.specs.Basics.{◌≡◌, List, ℕ, ◌+◌, ◌≤◌, ◌<◌, length, get_or}
+use Rattle.std.specs.Prelude.{◌≡◌, ◌+◌, ◌≤◌, ◌<◌}
+use Rattle.base.specs.Basics.{List, ℕ, length, get_or}
 use Rattle.cut_worth.specs.Totals.{totals}
 use Rattle.cut_worth.specs.declared.Totals.{Totals}
 use Rattle.book_format.specs.Held.{HeldAs}

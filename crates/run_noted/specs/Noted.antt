@@ -1,5 +1,6 @@
 -- A run with a log on arrays: the places of the own sales, and what the run gives. Assumes nothing.
-use Rattle.base.specs.Basics.{◌≡◌, Bool, true, false, none, some, List, ℕ, ◌+◌, ◌-◌, ◌<◌, ◌≤◌, length, get_or}
+use Rattle.std.specs.Prelude.{◌≡◌, ◌+◌, ◌-◌, ◌<◌, ◌≤◌}
+use Rattle.base.specs.Basics.{Bool, true, false, none, some, List, ℕ, length, get_or}
 use Rattle.cut_worth.specs.declared.Totals.{Totals}
 use Rattle.rules.specs.Book.{Book, User}
 use Rattle.rules.specs.Calls.{next_reduced, run_for}

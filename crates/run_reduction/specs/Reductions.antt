@@ -1,5 +1,6 @@
 -- A reduction on arrays: the room that it needs, what stays through it, and the book that it starts from. Assumes nothing.
-use Rattle.base.specs.Basics.{◌≡◌, Bool, List, ℕ, ◌+◌, ◌*◌, ◌≤◌, ◌<◌, ◌^◌, ltb, length, get_or}
+use Rattle.std.specs.Prelude.{◌≡◌, ◌+◌, ◌*◌, ◌≤◌, ◌<◌, ◌^◌}
+use Rattle.base.specs.Basics.{Bool, List, ℕ, ltb, length, get_or}
 use Rattle.book_format.specs.Book.{book_of}
 use Rattle.base.specs.Parts.{neg_part}
 use Rattle.laws.specs.Sound.{Sound}

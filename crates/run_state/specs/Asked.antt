@@ -1,5 +1,6 @@
 -- What a reduction of a run touches: who is asked anew, and the positions that it moves. Assumes nothing.
-use Rattle.base.specs.Basics.{◌≡◌, Bool, false, cond, ◌&&◌, ◌||◌, List, [], ◌∷◌, ℕ, ◌+◌, ◌*◌, ◌-◌, ◌<◌, eqb, ltb, length, get_or, set}
+use Rattle.std.specs.Prelude.{◌≡◌, ◌&&◌, ◌||◌, ◌∷◌, ◌+◌, ◌*◌, ◌-◌, ◌<◌}
+use Rattle.base.specs.Basics.{Bool, false, cond, List, [], ℕ, eqb, ltb, length, get_or, set}
 use Rattle.rules.specs.Book.{User, Book, nobody}
 
 -- the user at a place of a book

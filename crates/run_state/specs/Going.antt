@@ -1,5 +1,6 @@
 -- A run that has come from the opening book to a book: what its arrays hold of the two, as their risk is borne. Assumes nothing.
-use Rattle.base.specs.Basics.{◌≡◌, Bool, true, false, cond, List, map, ℕ, suc, ◌≤◌, ◌<◌, length, get_or}
+use Rattle.std.specs.Prelude.{◌≡◌, ◌≤◌, ◌<◌}
+use Rattle.base.specs.Basics.{Bool, true, false, cond, List, map, ℕ, suc, length, get_or}
 use Rattle.book_format.specs.Steps.{place_of}
 use Rattle.laws.specs.Sound.{Sound}
 use Rattle.laws.specs.Trades.{Lowered, Pairwise}

@@ -1,5 +1,6 @@
 -- What a run asks of its users before the first reduction and after each. Assumes nothing.
-use Rattle.base.specs.Basics.{◌≡◌, Bool, cond, ◌||◌, List, ℕ, ◌≤◌, ◌<◌, length, get_or}
+use Rattle.std.specs.Prelude.{◌≡◌, ◌||◌, ◌≤◌, ◌<◌}
+use Rattle.base.specs.Basics.{Bool, cond, List, ℕ, length, get_or}
 use Rattle.book_format.specs.Book.{book_of, count_of_users}
 use Rattle.book_format.specs.Questions.{Formed}
 use Rattle.rules.specs.Areas.{Prices}

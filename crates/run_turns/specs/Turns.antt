@@ -1,5 +1,6 @@
 -- A run on arrays: what stays, what one reduction gives, and what all give. Assumes nothing.
-use Rattle.base.specs.Basics.{◌≡◌, Bool, true, List, ℕ, ◌+◌, ◌≤◌, ◌<◌, length, get_or}
+use Rattle.std.specs.Prelude.{◌≡◌, ◌+◌, ◌≤◌, ◌<◌}
+use Rattle.base.specs.Basics.{Bool, true, List, ℕ, length, get_or}
 use Rattle.book_format.specs.Book.{book_of}
 use Rattle.cut_peaks.specs.Keeping.{Chosen, KeptFor}
 use Rattle.cut_peaks.specs.Peaks.{NoneCut}

@@ -1,5 +1,6 @@
 -- Document 02, ask 9, in sequences: "Every call on a book gains an acting party". What is claimed of any finite sequence of requests, each by any party. Assumes nothing.
-use Rattle.base.specs.Basics.{◌≡◌, Bool, not, Option, some, List, [], ◌∷◌, map, ℕ, ◌≤◌, T, ℤ, length}
+use Rattle.std.specs.Prelude.{◌≡◌, ◌∷◌, ◌≤◌}
+use Rattle.base.specs.Basics.{Bool, not, Option, some, List, [], map, ℕ, T, ℤ, length}
 use Rattle.base.specs.Lists.{all}
 use Rattle.fields.specs.Field.{AllBytes}
 use Rattle.book_format.specs.Book.{trades_of}
@@ -13,7 +14,7 @@ use Rattle.rights.specs.Party.{Party, operator, shipper_of}
 use Rattle.rules.specs.Calls.{Answer, Call, cuttable, only, run}
 use Rattle.store.specs.Store.{given}
 use Rattle.sequence.specs.Claim.{Claim}
-use Rattle.sequence.specs.Contracts.{call_link, list_link, withdrawal_link}
+use Rattle.sequence.specs.ContractLinks.{call_link, list_link, withdrawal_link}
 use Rattle.sequence.specs.Links.{Link, Linked, accepted_number}
 use Rattle.sequence.specs.Logs.{Back, Handed, Written, is_withdrawal, since}
 

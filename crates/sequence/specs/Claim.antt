@@ -1,6 +1,7 @@
 -- Demand 3 as one claim about a whole sequence of requests that are all given one store, or none, and whatever logs, from bytes s that pass the questions 1 to 7 to bytes t. Assumes
 -- nothing.
-use Rattle.base.specs.Basics.{◌≡◌, not, Option, List, [], ◌∷◌, ℕ, ◌+◌, ◌*◌, ◌<◌, T, ◌+ℤ◌, length, take, drop}
+use Rattle.std.specs.Prelude.{◌≡◌, ◌∷◌, ◌+◌, ◌*◌, ◌<◌, ◌+ℤ◌}
+use Rattle.base.specs.Basics.{not, Option, List, [], ℕ, T, length, take, drop}
 use Rattle.book_format.specs.Book.{size_of_header, trade_size, version_of, trades_at, count_of_trades, users_of, trades_of, book_of, bytes_of}
 use Rattle.book_format.specs.Questions.{book_number}
 use Rattle.base.specs.Sums.{sum_ℤ}

@@ -1,6 +1,7 @@
 -- What deposit stops the cuts, of a run on a book in bytes with a store and a log, or none of them, by the contract of the public function, accepted, stopped by a full log or refused.
 -- The bytes hold some book after its deposits; the figures are those in force on that book's date. Assumes nothing.
-use Rattle.base.specs.Basics.{◌≡◌, Option, List, Memᴰ, ℕ, ◌<◌, T}
+use Rattle.std.specs.Prelude.{◌≡◌, ◌<◌}
+use Rattle.base.specs.Basics.{Option, List, Memᴰ, ℕ, T}
 use Rattle.fields.specs.Field.{AllBytes}
 use Rattle.book_format.specs.Book.{book_of}
 use Rattle.book_format.specs.Questions.{book_number}

@@ -1,6 +1,6 @@
 -- What is claimed of a sequence of requests on a book in bytes.
 pub mod Links
-pub mod Contracts
+pub mod ContractLinks
 pub mod Totals
 pub mod Claim
 pub mod RunLength

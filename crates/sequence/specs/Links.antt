@@ -1,5 +1,6 @@
 -- A sequence of requests as it happened: each with the bytes that it was given and what it gave. Assumes nothing.
-use Rattle.base.specs.Basics.{◌≡◌, Bool, ◌||◌, Option, List, [], ◌∷◌, map, ℕ, eqb}
+use Rattle.std.specs.Prelude.{◌≡◌, ◌||◌, ◌∷◌}
+use Rattle.base.specs.Basics.{Bool, Option, List, [], map, ℕ, eqb}
 use Rattle.requests.specs.Carried.{Carried}
 use Rattle.requests.specs.Request.{call, postings, withdrawal, Act, Outcome, Request, request}
 use Rattle.rules.specs.Calls.{posting, morning_call_of, afternoon_call_of, reduction, run}

@@ -1,6 +1,7 @@
 -- Document 02, ask 6: "For a log so started and written by these calls alone, after withdrawing every reduction noted the book is byte for byte the one before the first of them."
 -- Assumes nothing.
-use Rattle.base.specs.Basics.{◌≡◌, Bool, true, false, cond, Option, none, some, List, [], ◌∷◌, ℕ, T, eqb, length}
+use Rattle.std.specs.Prelude.{◌≡◌, ◌∷◌}
+use Rattle.base.specs.Basics.{Bool, true, false, cond, Option, none, some, List, [], ℕ, T, eqb, length}
 use Rattle.base.specs.Lists.{all}
 use Rattle.fields.specs.Field.{AllBytes}
 use Rattle.book_format.specs.Questions.{book_number}

@@ -1,6 +1,7 @@
 -- Ask 10, "How long a run can be": of a run on a book in bytes with a store and a log, or none of them, by the contract of the public function, accepted, stopped by a full log
 -- or refused. Assumes nothing.
-use Rattle.base.specs.Basics.{◌≡◌, not, Option, some, List, ℕ, ◌≤◌, T}
+use Rattle.std.specs.Prelude.{◌≡◌, ◌≤◌}
+use Rattle.base.specs.Basics.{not, Option, some, List, ℕ, T}
 use Rattle.fields.specs.Field.{AllBytes}
 use Rattle.book_format.specs.Book.{trades_of}
 use Rattle.requests.specs.Carried.{Carried}

@@ -1,6 +1,7 @@
 -- Document 01, "Sequences": the totals over a sequence; "a refused call adds to no sum". Document 02, ask 1: lists, "each line given 0 counting as an accepted posting"; ask 6:
 -- "reported totals are counted less the MWh and worth that withdrawals return". Assumes nothing.
-use Rattle.base.specs.Basics.{cond, List, [], ◌∷◌, ℕ, eqb, ℤ, pos, neg_ℤ, ◌+ℤ◌}
+use Rattle.std.specs.Prelude.{◌∷◌, ◌+ℤ◌}
+use Rattle.base.specs.Basics.{cond, List, [], ℕ, eqb, ℤ, pos, neg_ℤ}
 use Rattle.requests.specs.Request.{Act, call, postings, withdrawal}
 use Rattle.rules.specs.Calls.{Call, posting, morning_call_of, afternoon_call_of, reduction, run}
 use Rattle.sequence.specs.Links.{Link, is_accepted}

@@ -1,5 +1,6 @@
 -- Ask 11: what holds of every return and of every share over 30 days. The proofs stand in proofs/Main.antt. Assumes nothing.
-use Rattle.base.specs.Basics.{◌≡◌, not, List, ℕ, ◌+◌, ◌*◌, ◌<◌, ◌≤◌, T, ℤ, pos, nat_abs, length, get_or}
+use Rattle.std.specs.Prelude.{◌≡◌, ◌+◌, ◌*◌, ◌<◌, ◌≤◌}
+use Rattle.base.specs.Basics.{not, List, ℕ, T, ℤ, pos, nat_abs, length, get_or}
 use Rattle.base.specs.Sums.{sum}
 use Rattle.shrinkage.specs.Days.{values_over_days}
 use Rattle.shrinkage.specs.Return.{total, is_below_zero, own, own_sum, half, share_of, remainder_of, nothing, returned}

@@ -1,5 +1,6 @@
 -- The set that the code's struct is, and what the code ensures of a store that it asks. Assumes nothing.
-use Rattle.base.specs.Basics.{◌≡◌, cond, Option, List, ℕ}
+use Rattle.std.specs.Prelude.{◌≡◌}
+use Rattle.base.specs.Basics.{cond, Option, List, ℕ}
 use Rattle.rules.specs.Levels.{Limits}
 use Rattle.units.specs.Limits.{as_limits, LimitsInRange}
 use Rattle.store.specs.Store as model

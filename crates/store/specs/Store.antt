@@ -1,5 +1,6 @@
 -- Document 02, ask 4: the store of parameter sets in bytes, and the figures that a call takes from it. Assumes nothing.
-use Rattle.base.specs.Basics.{Bool, true, false, not, cond, ◌&&◌, Option, none, some, List, [], ◌∷◌, ℕ, ◌+◌, ◌*◌, eqb, leb, ltb, length, drop}
+use Rattle.std.specs.Prelude.{◌&&◌, ◌∷◌, ◌+◌, ◌*◌}
+use Rattle.base.specs.Basics.{Bool, true, false, not, cond, Option, none, some, List, [], ℕ, eqb, leb, ltb, length, drop}
 use Rattle.fields.specs.Field.{field}
 use Rattle.fields.specs.Layout.{records_of}
 use Rattle.rules.specs.Calendar.{real_day}

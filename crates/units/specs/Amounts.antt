@@ -1,5 +1,6 @@
 -- The integers that the code's signed amounts stand for. Assumes nothing.
-use Rattle.base.specs.Basics.{◌^◌, ℤ, sub_ℕ}
+use Rattle.std.specs.Prelude.{◌^◌}
+use Rattle.base.specs.Basics.{ℤ, sub_ℕ}
 use Rattle.units.specs.declared.Net.{Net}
 use Rattle.units.specs.declared.Balance.{Balance}
 

@@ -1,5 +1,6 @@
 -- What is claimed of the levels of all users: each row is what the calls for that user's id tell; and who is told. Assumes nothing.
-use Rattle.base.specs.Basics.{◌≡◌, Bool, false, cond, none, List, ℕ, suc, ◌<◌, ◌≤◌, get_or, length}
+use Rattle.std.specs.Prelude.{◌≡◌, ◌<◌, ◌≤◌}
+use Rattle.base.specs.Basics.{Bool, false, cond, none, List, ℕ, suc, get_or, length}
 use Rattle.rules.specs.Book.{User, nobody}
 use Rattle.rules.specs.Day as day
 use Rattle.rules.specs.Levels.{shipper}

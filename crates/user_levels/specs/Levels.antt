@@ -1,6 +1,7 @@
 -- The levels and the state of every user of a book in one answer: documents 01 and 02 ask for them user by user. A book is asked its questions once for all of them.
 -- Assumes nothing.
-use Rattle.base.specs.Basics.{cond, List, ◌++◌, map, ℕ, ◌-◌, length, replicate}
+use Rattle.std.specs.Prelude.{◌++◌, ◌-◌}
+use Rattle.base.specs.Basics.{cond, List, map, ℕ, length, replicate}
 use Rattle.rules.specs.Book.{Book, User}
 use Rattle.rules.specs.Day.{State, clear, printed_level, state}
 use Rattle.rules.specs.Levels.{Limits, morning_level, shipper}

@@ -1,6 +1,7 @@
 -- Document 02, ask 9: "It may see its own record and trades, and for an area where it manages others their records and their trades in that area." What a party may see, by
 -- the ids of users and managers alone. Assumes nothing.
-use Rattle.base.specs.Basics.{◌≡◌, Bool, ◌||◌, List, ℕ, ◌<◌, T, eqb}
+use Rattle.std.specs.Prelude.{◌≡◌, ◌||◌, ◌<◌}
+use Rattle.base.specs.Basics.{Bool, List, ℕ, T, eqb}
 use Rattle.base.specs.Lists.{any}
 use Rattle.rules.specs.Areas.{areas}
 use Rattle.rules.specs.Book.{Trade, User, find, manager_in}

@@ -1,5 +1,6 @@
 -- The place of an element of a list that passes a test. Assumes nothing.
-use Rattle.base.specs.Basics.{Bool, cond, List, [], ◌∷◌, ℕ, zero, suc}
+use Rattle.std.specs.Prelude.{◌∷◌}
+use Rattle.base.specs.Basics.{Bool, cond, List, [], ℕ, zero, suc}
 
 module _ {A : Type 0} where
   -- "by ordinal from 0": the place of an element that passes; the number of elements where there is none

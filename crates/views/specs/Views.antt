@@ -1,5 +1,6 @@
 -- Document 02, ask 9, "Who may see and do what": what a party, a shipper with an id, may see of a book. Assumes nothing.
-use Rattle.base.specs.Basics.{Bool, ◌||◌, List, ℕ, eqb}
+use Rattle.std.specs.Prelude.{◌||◌}
+use Rattle.base.specs.Basics.{Bool, List, ℕ, eqb}
 use Rattle.base.specs.Lists.{any}
 use Rattle.laws_sales.specs.Kept.{kept}
 use Rattle.rules.specs.Areas.{areas}

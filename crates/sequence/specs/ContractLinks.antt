@@ -1,6 +1,7 @@
 -- The contracts of the public functions give the links of a sequence: who has them of calls, withdrawals and lists of postings that follow one another has the sequence, and
 -- with it its claim. Assumes nothing.
-use Rattle.base.specs.Basics.{Bool, Option, some, List, [], ◌∷◌, ℕ, ℤ, length}
+use Rattle.std.specs.Prelude.{◌∷◌}
+use Rattle.base.specs.Basics.{Bool, Option, some, List, [], ℕ, ℤ, length}
 use Rattle.requests.specs.Logged.{Logged, Posted, list_with}
 use Rattle.requests.specs.Request.{call, withdrawal, act_of}
 use Rattle.rules.specs.Calls.{Answer, Call, only}
