@@ -12,5 +12,3 @@ pub mod Storing
 pub mod Fronts
 pub mod Rewriting
 pub mod Every
--- A value in a local that is lent.
-pub mod Local

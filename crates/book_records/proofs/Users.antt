@@ -1,5 +1,5 @@
 -- Laws of a user's bytes, 56 and with its managers 68: how many, bytes, read and written, written and read. Assumes nothing.
-use Rattle.base.specs.Basics.{◌≡◌, refl, sym, ap, ap₂, ◌∙◌, Bool, true, false, cond, List, [], ◌++◌, append-nil, ℕ, ◌+◌, ◌≤◌, arith, length, get_or}
+use Rattle.base.specs.Basics.{◌≡◌, refl, sym, ap, ap₂, ◌∙◌, Bool, true, false, cond, List, [], ◌++◌, append-nil, ℕ, ◌≤◌, arith, length, get_or}
 use Rattle.base.specs.Basics.{take, drop, length-append, take-append-drop, drop_of_length-le, length-drop, length-take, take_all}
 use Rattle.rules.specs.Signed.{signed_of}
 use Rattle.rules.specs.Book.{User, Managers, unmanaged}

@@ -64,7 +64,8 @@ module _ {known : List ℕ} {n at size : ℕ} {ids areas : List ℕ} {amounts : 
         (posting_onward today s (get_or ids i 0) (get_or areas i 0) (get_or amounts i (pos 0)) p.bytes p.searched.passes)
 
     -- the line by itself, in a setting
-    first : (g : Setting) → opening (book_number s) g s ≡ 0 → ((step_in as_bytes (book_number s) g s (posting (get_or ids i 0) (get_or areas i 0) (get_or amounts i (pos 0)))).answer.number ≡ r) × ((step_in as_bytes (book_number s) g s (posting (get_or ids i 0) (get_or areas i 0) (get_or amounts i (pos 0)))).book ≡ t)
+    first : (g : Setting) → opening (book_number s) g s ≡ 0 → ((step_in as_bytes (book_number s) g s (posting (get_or ids i 0) (get_or areas i 0) (get_or amounts i (pos 0)))).answer.number ≡ r) ×
+        ((step_in as_bytes (book_number s) g s (posting (get_or ids i 0) (get_or areas i 0) (get_or amounts i (pos 0)))).book ≡ t)
     unfolding step_in only
     first g e =
         let call = posting (get_or ids i 0) (get_or areas i 0) (get_or amounts i (pos 0)) in

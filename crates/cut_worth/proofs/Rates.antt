@@ -9,7 +9,6 @@ use Rattle.rules.specs.Shares.{tier_worth}
 use Rattle.laws_sales.proofs.Numbers.{read_at, standing_in_at, standing_in_length}
 use Rattle.laws_sales.specs.Parts.{part}
 use Rattle.laws_sales.specs.Sales.{standing_in}
-use Rattle.laws_sales.proofs.Lots.{one_worth_le}
 use Rattle.laws_sales.specs.Lots.{lots_of}
 
 -- what is outside the tier has no worth at its rate
@@ -46,12 +45,6 @@ rates_most {rates} r areas k =
     by_order k (length areas)
     (λ l. omega (arith, read_at (rate_in rates) areas k 0 0 l, r.most (get_or areas k 0)))
     (λ l. omega (arith, get_or-eq_default (rates_in rates areas) 0 {n = k} (omega (arith, length-map areas (rate_in rates)))))
-
--- the worth of the first sale has a bound
-pub first_worth_le : {ss areas rates : List ℕ} {from to rate : ℕ} → Sales ss areas from to → Rates rates → from < to → rate ≡ rate_in rates (get_or areas from 0)
-    → get_or ss from 0 * rate ≤ 10000000000
-first_worth_le {areas = areas} {from = from} {rate = rate} s r h e =
-    one_worth_le (s.standing_most from (omega arith) h) (let m : rate ≤ 100000 = omega (arith, e, r.most (get_or areas from 0)) in m)
 
 module _ (areas rates : List ℕ) (from to : ℕ) (inside : to ≤ length areas) where
   -- as many rates as there are places

@@ -1,4 +1,2 @@
--- What the walks share of a trade, the list as the loop has it, and an array of any length lent.
-pub mod Lends
-pub mod Trades
+-- The list as the loop has it.
 pub mod Turns

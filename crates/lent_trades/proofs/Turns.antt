@@ -5,7 +5,10 @@ use Rattle.rules.specs.Book as model
 use Rattle.rules.specs.Reduction.{cut_by, cut_all}
 use Rattle.book_records.specs.declared.Trade.{Trade}
 use Rattle.book_records.specs.Trade.{as_trade, blank_trade}
-use Rattle.lent_trades.proofs.Trades.{with_standing}
+
+-- the record with another standing amount
+abbrev pub with_standing : Trade → ℕ → Trade
+with_standing t n = record { seller = t.seller; buyer = t.buyer; area = t.area; kind = t.kind; day = t.day; notified = t.notified; standing = record { 0 = n } }
 
 -- the trade with a cut
 abbrev pub lowered : ℕ → Trade → Trade

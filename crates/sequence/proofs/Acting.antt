@@ -18,7 +18,7 @@ use Rattle.sequence.proofs.Logs.{log_back}
 use Rattle.sequence.proofs.RunLength.{run_length}
 use Rattle.sequence.proofs.Sequence.{sequence}
 use Rattle.sequence.specs.Acting.{deeds_also, deeds_none, ended_by, then_by, ClaimBy, ContractsLinkBy, Deed, EachDeed, LinkedBy, LogBackBy, LogsBy, RunLengthBy, Stopped, also_by, links_of, operators_of}
-use Rattle.sequence.specs.Contracts.{call_link, list_link, withdrawal_link}
+use Rattle.sequence.specs.ContractLinks.{call_link, list_link, withdrawal_link}
 use Rattle.sequence.specs.Links.{ended, then, Link, Linked, accepted_number}
 use Rattle.sequence.specs.Logs.{begun, beside, handed, kept, written, Handed, Written}
 

@@ -13,7 +13,7 @@ use Rattle.requests.specs.Request.{logged_after, opening, opening_lines, opening
 use Rattle.rules.specs.Calls.{Answer, Call, about, only}
 use Rattle.rules.specs.Questions.{after, refusal}
 use Rattle.store.specs.Store.{given}
-use Rattle.sequence.specs.Contracts.{ContractsLink, call_link, list_link, withdrawal_link}
+use Rattle.sequence.specs.ContractLinks.{ContractsLink, call_link, list_link, withdrawal_link}
 use Rattle.sequence.specs.Links.{then}
 
 -- ---- numbers of lines: of requests after the questions of the book, and 26, whose number is n

@@ -1,0 +1,9 @@
+-- Three fields of 4 bytes are set, one after the other, each in two's complement.
+use Rattle.fields.specs.Layout.{set_fields}
+use Rattle.book_records.specs.User.{amount_widths, amount_values, as_amounts}
+use Rattle.book_records.proofs.put_amounts.Goals as goal
+
+pub returns : goal.returns
+unfolding amount_widths amount_values set_fields as_amounts
+returns c =
+    rw (c.put_u32-3.ensures, c.bits-3.ensures, c.put_u32-2.ensures, c.bits-2.ensures, c.put_u32.ensures, c.bits.ensures)

@@ -1,0 +1,12 @@
+-- `daybook_raw_run` makes the run where the lent part has three places, and stores its numbers there. Assumes nothing.
+use Rattle.exports_answers.specs.Numbers.{run_numbers}
+use Rattle.exports.specs.Answers.{is_yes}
+use Rattle.exports.proofs.Lent.{answered, not_called}
+use Rattle.exports.proofs.changes.daybook_raw_run.Goals as goal
+
+pub returns-then-answer-ne-RUN_NUMBERS : goal.returns-then-answer-ne-RUN_NUMBERS
+returns-then-answer-ne-RUN_NUMBERS c = not_called 3 c.args.answer.now run_numbers _ _ _ _ c.if-answer-ne-RUN_NUMBERS.true
+
+pub returns : goal.returns
+unfolding is_yes
+returns c = answered 3 _ run_numbers _ _ _ _ _ _ _ _ _ c.if-answer-ne-RUN_NUMBERS.false c.run-run.ensures c.store_run.ensures.0 c.store_run.ensures.1

@@ -1,0 +1,15 @@
+-- `daybook_raw_show_picked` copies the shown part of the picked book to the front of 68 zeros, and leaves a part of another length as it is. Assumes nothing.
+use Rattle.exports.specs.Answers.{is_yes}
+use Rattle.exports.proofs.Lent.{refused}
+use Rattle.exports.proofs.Shown.{shown_length, copied}
+use Rattle.exports.proofs.daybook_raw_show_picked.Goals as goal
+
+pub returns-then-record-ne-RECORD_SIZE : goal.returns-then-record-ne-RECORD_SIZE
+returns-then-record-ne-RECORD_SIZE c = refused 68 c.args.record.now _ _ _ c.if-record-ne-RECORD_SIZE.true
+
+pub fill-requires : goal.fill-requires
+fill-requires c = rw (c.show_picked-part.ensures.shows, c.if-record-ne-RECORD_SIZE.false) (shown_length _ _ _)
+
+pub returns : goal.returns
+unfolding is_yes
+returns c = copied _ _ _ _ _ _ _ _ c.if-record-ne-RECORD_SIZE.false c.show_picked-part.ensures c.fill.ensures

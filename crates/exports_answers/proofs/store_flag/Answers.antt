@@ -1,0 +1,10 @@
+-- `store_flag` stores an array of the one number, which the cast makes 1 of yes and 0 of no. Assumes nothing.
+use Rattle.base.specs.Basics.{refl, ap, ◌∙◌, [], ◌∷◌, ℕ}
+use Rattle.exports_answers.specs.Numbers.{flag_numbers}
+use Rattle.exports_answers.proofs.Bits.{cast_bit}
+use Rattle.call_answers.specs.Told.{flag_told}
+use Rattle.exports_answers.proofs.store_flag.Goals as goal
+
+pub returns : goal.returns
+unfolding flag_numbers flag_told
+returns c = (refl, c.store.ensures ∙ ap (λ (n : ℕ). n ∷ []) (cast_bit c.args.reply.flagged))

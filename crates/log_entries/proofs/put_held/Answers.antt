@@ -1,0 +1,16 @@
+-- `put_held` copies the book to the front of the part and clears what is behind it. Assumes nothing.
+use Rattle.base.specs.Basics.{sym, ◌∙◌, arith, take, length, length-take, length-take-le}
+use Rattle.fields.proofs.Sets.{all_copied, front_filled}
+use Rattle.log_format.specs.Log.{padded}
+use Rattle.log_entries.proofs.put_held.Goals as goal
+
+pub returns : goal.returns
+unfolding padded
+returns c = front_filled c.args.book.now c.args.part.now c.copy_from_slice.new.self c.clear.new.s 0 c.requires
+    (c.copy_from_slice.ensures.after ∙ sym (all_copied c.args.book.now (take (length c.args.book.now) c.args.part.now) (length-take-le (length c.args.book.now) c.args.part.now c.requires))) c.clear.ensures
+
+pub slice_bounds-copy_from_slice-end-2 : goal.slice_bounds-copy_from_slice-end-2
+slice_bounds-copy_from_slice-end-2 c = sym (length-take-le _ _ c.requires)
+
+pub copy_from_slice-requires : goal.copy_from_slice-requires
+copy_from_slice-requires c = rw length-take (omega (arith, c.requires))

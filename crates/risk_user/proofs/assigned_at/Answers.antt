@@ -1,0 +1,7 @@
+-- `assigned_at`: a field of the record. Assumes nothing.
+use Rattle.base.specs.Basics.{◌∙◌}
+use Rattle.risk_user.proofs.Money.{assigned_is}
+use Rattle.risk_user.proofs.assigned_at.Goals as goal
+
+pub returns : goal.returns
+returns c = c.get_u64.ensures ∙ assigned_is c.requires c.user_offset.ensures.0

@@ -1,0 +1,12 @@
+-- `on_day`: one kWh more on the days before as many as are left. Assumes nothing.
+use Rattle.base.specs.Basics.{arith, lt-ltb, le-ltb}
+use Rattle.shrinkage.specs.Days.{value_on_day}
+use Rattle.shrinkage.proofs.on_day.Goals as goal
+
+pub returns-then-day-left : goal.returns-then-day-left
+unfolding value_on_day
+returns-then-day-left c = rw (lt-ltb _ _ c.if-day-left.true) (omega arith)
+
+pub returns : goal.returns
+unfolding value_on_day
+returns c = rw (le-ltb _ _ c.if-day-left.false) (omega arith)

@@ -1,0 +1,12 @@
+-- PVB is told from the other areas.
+use Rattle.std.proofs.Common.{eq-eqb, ne_eqb}
+use Rattle.rules.specs.Areas.{tariff}
+use Rattle.units.proofs.Area.tariff.Goals as goal
+
+pub returns-then-code-eq-PVB-clause-result_value : goal.returns-then-code-eq-PVB-clause-result_value
+unfolding tariff
+returns-then-code-eq-PVB-clause-result_value c = rw (eq-eqb _ _ c.if-code-eq-PVB.true)
+
+pub returns-else-code-eq-PVB-clause-result_value : goal.returns-else-code-eq-PVB-clause-result_value
+unfolding tariff
+returns-else-code-eq-PVB-clause-result_value c = rw (ne_eqb _ _ c.if-code-eq-PVB.false)
