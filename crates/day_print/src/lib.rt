@@ -1,4 +1,9 @@
-// What the programs print on standard output: numbers, signed energies, and the day of a book.
+// What the programs print, to a writer that they give: numbers, signed energies, and the day of a book; and what they read (input.rt). A
+// write that fails ends the printing, and its error is returned; what was written before it stays written.
+#![tactic(auto)]
+
+mod input;
+
 ghost use Rattle.std.specs.Prelude.{◌≡◌};
 ghost use Rattle.rules.specs.Calls.{call_after};
 ghost use Rattle.rules.specs.Levels.{today};
@@ -13,86 +18,81 @@ ghost use Rattle.day_print.specs.Lines.{LinesAsked};
 
 use call_answers::RunAnswer;
 use day_lines::Line;
-use libc::STDOUT_FILENO;
+pub use input::{read_file, read_full};
 use risk_user::{Day, State};
+use std::io;
+use std::io::Write;
 use units::{Limits, Net};
 
 // A space and a number.
-pub fn number(n: u64) {
-    io::write_all(STDOUT_FILENO, b" ");
-    io::print_decimal(STDOUT_FILENO, n);
+pub fn number(out: &mut impl Write, n: u64) -> io::Result<()> {
+    write!(out, " {n}")
 }
 
 // A space and an energy, with `-` before it where it is below 0.
-fn net(energy: Net) {
+fn net(out: &mut impl Write, energy: Net) -> io::Result<()> {
     let short = energy.short();
     if 0 < short.0 {
-        io::write_all(STDOUT_FILENO, b" -");
-        io::print_decimal(STDOUT_FILENO, short.0);
-        return;
+        return write!(out, " -{}", short.0);
     }
     let long = energy.long();
-    number(long.0);
+    number(out, long.0)
 }
 
 // The energies of the three areas.
-pub fn nets(energies: [Net; 3]) {
-    net(energies[0]);
-    net(energies[1]);
-    net(energies[2]);
+pub fn nets(out: &mut impl Write, energies: [Net; 3]) -> io::Result<()> {
+    net(out, energies[0])?;
+    net(out, energies[1])?;
+    net(out, energies[2])
 }
 
 // A space and the word of a state.
-fn word(state: State) {
+fn word(out: &mut impl Write, state: State) -> io::Result<()> {
     match state {
-        State::Clear => {
-            io::write_all(STDOUT_FILENO, b" clear");
-        }
-        State::Short => {
-            io::write_all(STDOUT_FILENO, b" short");
-        }
-        State::Call => {
-            io::write_all(STDOUT_FILENO, b" call");
-        }
-        State::Quiet => {
-            io::write_all(STDOUT_FILENO, b" quiet");
-        }
+        State::Clear => out.write_all(b" clear"),
+        State::Short => out.write_all(b" short"),
+        State::Call => out.write_all(b" call"),
+        State::Quiet => out.write_all(b" quiet"),
     }
 }
 
 // A line of a printed day.
-fn line(line: Line) {
+fn line(out: &mut impl Write, line: Line) -> io::Result<()> {
+    let id = line.id;
     let state = line.state;
     let level = line.level;
     let position = line.position;
-    io::print_decimal(STDOUT_FILENO, line.id as u64);
-    word(state);
-    number(level.0);
-    nets(position);
-    io::write_all(STDOUT_FILENO, b"\n");
+    write!(out, "{id}")?;
+    word(out, state)?;
+    number(out, level.0)?;
+    nets(out, position)?;
+    out.write_all(b"\n")
 }
 
 // The line of every user of an accepted book in bytes, in its order; `below_notified` says which of them are, as the risk is borne, party
 // to a trade standing below notified.
 fn lines_of(
+    out: &mut impl Write,
     book: &[u8],
     n: usize,
     sums: &[u32; 768],
     positions: &[u32; 192],
     below_notified: &[bool; 64],
     day: Day,
-)
+) -> io::Result<()>
     requires { LinesAsked (as_limits day.limits) (as_prices day.prices) book.now n sums.now positions.now below_notified.now }
 {
     let mut i = 0;
     while i < n {
-        line(day_lines::line_at(book, sums, positions, i, below_notified[i], day));
+        let told = day_lines::line_at(book, sums, positions, i, below_notified[i], day);
+        line(out, told)?;
         i += 1;
     }
+    Ok(())
 }
 
 // The lines of an accepted book: its users' sums, positions and cut trades, as their risk is borne, are gathered once for all of them.
-fn lines(book: &[u8])
+fn lines(out: &mut impl Write, book: &[u8]) -> io::Result<()>
     requires { book_number book.now ≡ 0 }
 {
     let mut sellers = [0u8; 256];
@@ -126,25 +126,23 @@ fn lines(book: &[u8])
         &bearing_buyers,
         &mut below_notified,
     );
-    lines_of(book, n, &sums, &positions, &below_notified, day);
+    lines_of(out, book, n, &sums, &positions, &below_notified, day)
 }
 
 // The line of a refused book.
-fn refusal(question: u32) {
-    io::write_all(STDOUT_FILENO, b"refused");
-    number(question as u64);
-    io::write_all(STDOUT_FILENO, b"\n");
+fn refusal(out: &mut impl Write, question: u32) -> io::Result<()> {
+    writeln!(out, "refused {question}")
 }
 
 // The line of a run: its reductions, MWh and worth.
-fn totals(answer: RunAnswer) {
+fn totals(out: &mut impl Write, answer: RunAnswer) -> io::Result<()> {
     let mwh = answer.mwh;
     let worth = answer.worth;
-    io::write_all(STDOUT_FILENO, b"run");
-    number(answer.reductions);
-    number(mwh.0);
-    number(worth.0);
-    io::write_all(STDOUT_FILENO, b"\n");
+    out.write_all(b"run")?;
+    number(out, answer.reductions)?;
+    number(out, mwh.0)?;
+    number(out, worth.0)?;
+    out.write_all(b"\n")
 }
 
 // Runs a book in bytes, with today's figures.
@@ -166,16 +164,15 @@ fn run(book: &mut [u8]) -> RunAnswer
 }
 
 // Runs a book in bytes and prints its day: the run, and the line of every user in the book that the run leaves; or the number of the
-// question that refuses it.
-pub fn day(book: &mut [u8])
+// question that refuses it. The book is run before anything is written: after an error too it is what the run leaves.
+pub fn day(out: &mut impl Write, book: &mut [u8]) -> io::Result<()>
     ensures { book.new ≡ (call_after in_bytes (book_number book.old) today book.old run_call).book }
 {
     let answer = run(book);
     let question = answer.number;
     if question != 0 {
-        refusal(question);
-        return;
+        return refusal(out, question);
     }
-    totals(answer);
-    lines(book);
+    totals(out, answer)?;
+    lines(out, book)
 }

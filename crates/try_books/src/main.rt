@@ -1,44 +1,38 @@
 // Damaged books: each book of the file `books` is read, and its place in the file and the number that reading answers are printed, a line
-// each. data/index says what is wrong with each. In the file a book stands behind its length, a number of two bytes.
+// each. data/index says what is wrong with each. In the file a book stands behind its length, a number of two bytes. Where the file does
+// not open, that is said on standard error. A read or a write that fails ends the program with its error.
+#![tactic(auto)]
 
-use libc::STDOUT_FILENO;
+use std::io;
+use std::io::Write;
 
 // Reads one book and prints its place and its number.
-fn ask(place: u64, bytes: &[u8]) {
+fn ask(out: &mut impl Write, place: u64, bytes: &[u8]) -> io::Result<()> {
     let opening = daybook::read(bytes, call_rights::OPERATOR);
     let number = opening.number;
-    io::print_decimal(STDOUT_FILENO, place);
-    io::write_all(STDOUT_FILENO, b" ");
-    io::print_decimal(STDOUT_FILENO, number as u64);
-    io::write_all(STDOUT_FILENO, b"\n");
+    writeln!(out, "{place} {number}")
 }
 
 // Reads every book of the file, up to the last that is whole.
-fn ask_all(file: &[u8]) {
+fn ask_all(out: &mut impl Write, file: &[u8]) -> io::Result<()> {
     let mut at = 0;
     let mut place = 0;
     while 2 <= file.len() - at {
         let len = fields::get_u16(file, at) as usize;
         let start = at + 2;
         if file.len() - start < len {
-            return;
+            return Ok(());
         }
         let end = start + len;
-        ask(place, &file[start..end]);
+        ask(out, place, &file[start..end])?;
         at = end;
         place += 1;
     }
+    Ok(())
 }
 
-fn main() {
-    let path = b"books";
-    let fd = os::open_read(path);
-    if fd < 0 {
-        os::fail(path);
-        return;
-    }
-    let mut file = io::large_buffer();
-    let n = io::read_full(fd, &mut file);
-    libc::close(fd);
-    ask_all(&file[..n]);
+fn main(rt: HostRuntime) -> io::Result<()> {
+    let mut file = [0u8; 65536];
+    let n = day_print::read_file(&rt, "books", &mut file)?;
+    ask_all(&mut io::writer(&rt), &file[..n])
 }

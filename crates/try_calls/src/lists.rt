@@ -4,7 +4,8 @@
 ghost use Rattle.std.specs.Prelude.{◌+◌, ◌*◌, ◌≤◌, length};
 
 use crate::numbers;
-use libc::STDOUT_FILENO;
+use std::io;
+use std::io::Write;
 
 // Reads a column of a list: the numbers of 4 bytes from `at` on.
 fn read_numbers(part: &[u8], at: usize, column: &mut [u32])
@@ -30,13 +31,14 @@ fn read_amounts(part: &[u8], at: usize, column: &mut [i64])
 
 // A list on a book, as two lines.
 fn post(
+    out: &mut impl Write,
     place: u64,
     book: &mut [u8],
     ids: &[u32],
     areas: &[u32],
     amounts: &[i64],
     places: &mut [u32],
-) {
+) -> io::Result<()> {
     let mut log = [0u8; 1];
     let number = daybook::list(
         book,
@@ -50,23 +52,24 @@ fn post(
         amounts,
         places,
     );
-    io::print_decimal(STDOUT_FILENO, place);
-    day_print::number(number as u64);
-    numbers::print_numbers(places);
-    io::write_all(STDOUT_FILENO, b"\nbook");
-    numbers::print_bytes(book);
-    io::write_all(STDOUT_FILENO, b"\n");
+    write!(out, "{place}")?;
+    day_print::number(out, number as u64)?;
+    numbers::print_numbers(out, places)?;
+    out.write_all(b"\nbook")?;
+    numbers::print_bytes(out, book)?;
+    out.write_all(b"\n")
 }
 
 // The list that a part of the file holds, read into its columns.
 fn post_part(
+    out: &mut impl Write,
     place: u64,
     part: &mut [u8],
     ids: &mut [u32],
     areas: &mut [u32],
     amounts: &mut [i64],
     places: &mut [u32],
-)
+) -> io::Result<()>
     requires { 4 * length ids.old + 4 * length areas.old + 8 * length amounts.old ≤ length part.old }
 {
     let areas_at = 4 * ids.len();
@@ -75,18 +78,19 @@ fn post_part(
     read_numbers(part, 0, ids);
     read_numbers(part, areas_at, areas);
     read_amounts(part, amounts_at, amounts);
-    post(place, &mut part[start..], ids, areas, amounts, places);
+    post(out, place, &mut part[start..], ids, areas, amounts, places)
 }
 
 // The list that a part of the file holds, with as many ids, areas, amounts and places.
 fn make_list(
+    out: &mut impl Write,
     place: u64,
     part: &mut [u8],
     id_count: usize,
     area_count: usize,
     amount_count: usize,
     place_count: usize,
-)
+) -> io::Result<()>
     requires id_count_bound { (id_count ≤ 513) × (area_count ≤ 513) × (amount_count ≤ 513) × (place_count ≤ 513) }
     requires amount_count_in_bounds { 4 * id_count + 4 * area_count + 8 * amount_count ≤ length part.old }
 {
@@ -95,13 +99,14 @@ fn make_list(
     let mut amounts = [0i64; 513];
     let mut places = [99u32; 513];
     post_part(
+        out,
         place,
         part,
         &mut ids[..id_count],
         &mut areas[..area_count],
         &mut amounts[..amount_count],
         &mut places[..place_count],
-    );
+    )
 }
 
 // The count at a place of the file, of which a list has at most 513.
@@ -117,7 +122,7 @@ fn count_at(file: &[u8], at: usize) -> usize
 }
 
 // Makes every list of the file `lists`, up to the last that is whole.
-pub fn make_lists(file: &mut [u8]) {
+pub fn make_lists(out: &mut impl Write, file: &mut [u8]) -> io::Result<()> {
     let mut at = 0;
     let mut place = 0;
     while 10 <= file.len() - at {
@@ -129,11 +134,20 @@ pub fn make_lists(file: &mut [u8]) {
         let start = at + 10;
         let size = 4 * ids + 4 * areas + 8 * amounts + len;
         if file.len() - start < size {
-            return;
+            return Ok(());
         }
         let end = start + size;
-        make_list(place, &mut file[start..end], ids, areas, amounts, places);
+        make_list(
+            out,
+            place,
+            &mut file[start..end],
+            ids,
+            areas,
+            amounts,
+            places,
+        )?;
         at = end;
         place += 1;
     }
+    Ok(())
 }

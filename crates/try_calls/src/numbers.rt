@@ -1,5 +1,6 @@
 // Numbers out of bytes, and bytes and numbers as text.
-use libc::STDOUT_FILENO;
+use std::io;
+use std::io::Write;
 
 // The least number whose top bit is set: 2^63.
 const TOP: u64 = 9223372036854775808;
@@ -14,26 +15,28 @@ pub fn amount_of(bits: u64) -> i64 {
 }
 
 // A space and bytes in hexadecimal.
-pub fn print_bytes(part: &[u8]) {
-    io::write_all(STDOUT_FILENO, b" ");
+pub fn print_bytes(out: &mut impl Write, part: &[u8]) -> io::Result<()> {
+    out.write_all(b" ")?;
     let mut i = 0;
     while i < part.len() {
         let byte = fields::get_u8(part, i);
-        io::print_hex(STDOUT_FILENO, byte as u64, 2);
+        write!(out, "{byte:02x}")?;
         i += 1;
     }
+    Ok(())
 }
 
 // A space and a number.
-fn print_number(number: u32) {
-    day_print::number(number as u64);
+fn print_number(out: &mut impl Write, number: u32) -> io::Result<()> {
+    day_print::number(out, number as u64)
 }
 
 // Numbers, a space before each.
-pub fn print_numbers(numbers: &[u32]) {
+pub fn print_numbers(out: &mut impl Write, numbers: &[u32]) -> io::Result<()> {
     let mut i = 0;
     while i < numbers.len() {
-        print_number(numbers[i]);
+        print_number(out, numbers[i])?;
         i += 1;
     }
+    Ok(())
 }

@@ -1,60 +1,56 @@
-// Words and numbers, to standard output. Whether a write succeeds is not looked at: what is written is compared as a whole.
-use libc::STDOUT_FILENO;
+// Words and numbers, to the writer that is given. The first write that fails ends the program with its error.
+use std::io;
+use std::io::Write;
 
 // Bytes as they are.
-pub fn write(text: &[u8]) {
-    io::write_all(STDOUT_FILENO, text);
+pub fn write(out: &mut impl Write, text: &[u8]) -> io::Result<()> {
+    out.write_all(text)
 }
 
 // The end of a line.
-pub fn end() {
-    write(b"\n");
+pub fn end(out: &mut impl Write) -> io::Result<()> {
+    write(out, b"\n")
 }
 
 // A space, and a number in decimal.
-pub fn number(n: u64) {
-    write(b" ");
-    io::print_decimal(STDOUT_FILENO, n);
+pub fn number(out: &mut impl Write, n: u64) -> io::Result<()> {
+    write!(out, " {n}")
 }
 
 // A space, and a number with its sign, from what it is above 0 and what it is below 0.
-pub fn signed(above: u64, below: u64) {
+pub fn signed(out: &mut impl Write, above: u64, below: u64) -> io::Result<()> {
     if 0 < below {
-        write(b" -");
-        io::print_decimal(STDOUT_FILENO, below);
+        write!(out, " -{below}")
     } else {
-        number(above);
+        number(out, above)
     }
 }
 
 // A space, and 1 for yes or 0 for no.
-pub fn answer(yes: bool) {
-    if yes {
-        number(1);
-    } else {
-        number(0);
-    }
+pub fn answer(out: &mut impl Write, yes: bool) -> io::Result<()> {
+    if yes { number(out, 1) } else { number(out, 0) }
 }
 
 // A line: what is asked, a number, and the answer.
-pub fn asked(name: &[u8], n: u64, yes: bool) {
-    write(name);
-    number(n);
-    answer(yes);
-    end();
+pub fn asked(out: &mut impl Write, name: &[u8], n: u64, yes: bool) -> io::Result<()> {
+    write(out, name)?;
+    number(out, n)?;
+    answer(out, yes)?;
+    end(out)
 }
 
 // A byte in hexadecimal, two digits.
-fn byte(b: u8) {
-    io::print_hex(STDOUT_FILENO, b as u64, 2);
+fn byte(out: &mut impl Write, b: u8) -> io::Result<()> {
+    write!(out, "{b:02x}")
 }
 
 // A space, and bytes in hexadecimal.
-pub fn bytes(s: &[u8]) {
-    write(b" ");
+pub fn bytes(out: &mut impl Write, s: &[u8]) -> io::Result<()> {
+    write(out, b" ")?;
     let mut i = 0;
     while i < s.len() {
-        byte(s[i]);
+        byte(out, s[i])?;
         i += 1;
     }
+    Ok(())
 }
