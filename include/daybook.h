@@ -1,6 +1,6 @@
 /* Jozmerod for C and C++: the public calls on a gas day's book of users and trades, held in bytes, and the return of retained shrinkage.
  *
- * Link with target/staticlib/libexports.a (`rt staticlib exports` writes it). The library allocates nothing, keeps nothing between calls and prints nothing; its functions
+ * Link with target/staticlib/libexports.a (`tools/staticlib` writes it). The library allocates nothing, keeps nothing between calls and prints nothing; its functions
  * are proved in crates/exports to give, for any bytes and any arguments, what documents 01 and 02 say. This header only passes on to them (daybook_raw.h).
  *
  * A part is a pointer and a length; one whose pointer is NULL has no bytes. A part that a call may change overlaps no other part of the same call, and each has as many bytes

@@ -43,7 +43,7 @@ withdrawal(book: &mut [u8], party: u64, with_store: u32, store: &[u8], log: &mut
 shrinkage_return(balances: &[i64], answer: &mut [u64])
 shrinkage_days(share: u64, answer: &mut [u64])
 """
-"""The exported functions without `daybook_raw_`, as crates/exports has them; each returns a number of 32
+"""The exported functions without `daybook_raw_`, as crates/exports_c has them; each returns a number of 32
 bits. A part between brackets is a pointer and a length."""
 
 _TYPES = {"u32": ctypes.c_uint32, "u64": ctypes.c_uint64, "i64": ctypes.c_int64}

@@ -2,7 +2,7 @@
 //!
 //! It is looked for in the folder that DAYBOOK_ARCHIVE_DIR names, as `libexports.a`. Without that
 //! an installed package, `PREFIX/share/daybook/rust`, takes `PREFIX/lib/libdaybook.a`, and the
-//! repository `target/staticlib/libexports.a`, where `rt staticlib exports` puts it.
+//! repository `target/staticlib/libexports.a`, where `tools/staticlib` puts it.
 //!
 //! Where it is missing that is a warning, and a failure of whatever has to be linked: `cargo doc`
 //! and `cargo check` need no archive.
@@ -21,8 +21,8 @@ fn main() {
     println!("cargo::rerun-if-changed={}", archive.display());
     if !archive.is_file() {
         println!(
-            "cargo::warning={} is missing, so that nothing can be linked: run `rt staticlib \
-             exports` at the repository's root, or name the folder of libexports.a in {FOLDER}",
+            "cargo::warning={} is missing, so that nothing can be linked: run `tools/staticlib` \
+             at the repository's root, or name the folder of libexports.a in {FOLDER}",
             archive.display()
         );
     }

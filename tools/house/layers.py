@@ -7,8 +7,8 @@ from repository import crates, fail, text_of
 # The crates that may stand on more than MOST_DEPENDENCIES others, beside programs: they gather all public calls.
 FACES = {"daybook", "exports"}
 MOST_DEPENDENCIES = 30
-# The libraries of the kit.
-KIT = {"bytes", "check", "io", "libc", "os", "packet"}
+# The libraries of the kit that a line may have; std is every crate's, and rt refuses libc and os.
+KIT = {"bytes"}
 # Endings that make no other name: level and levels, print and printed, run and running.
 ENDINGS = ("s", "es", "d", "ed", "ing", "er", "or", "ion", "ions", "ment", "y")
 
@@ -25,7 +25,8 @@ class House:
                     fail(place, heading.group(1), "a layer stands twice")
                 self.layers.append(heading.group(1))
             elif ":" in line and not line.startswith("#"):
-                name, needs = line.split(":")
+                head, needs = line.split(":")
+                name = head.split()[0]  # behind it stands `staticlib`, where the crate is one
                 self.layer_of[name] = self.layers[-1] if self.layers else None
                 self.needs[name] = needs.split()
                 self.place[name] = place

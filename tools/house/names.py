@@ -14,13 +14,13 @@ NAME = r"[a-z][a-z0-9_]*"
 SPAN = re.compile(r"`([^`]+)`")
 TOP = re.compile(r"(?<![\w./-])((?:\.\./)*(?:crates|docs|rust|python|tools|examples|include|samples|\.ci)/[\w.*/-]*[\w*/-])")
 IN_CRATE = re.compile(rf"(?<![\w./-])({NAME}/(?:specs|proofs|src|must-fail|edits)(?:/[\w./-]*[\w-])?)(?!\w)")
-COMMAND = re.compile(rf"(?:\brt (?:check|dev|staticlib|must-fail|goals|try|mir)|\btools/edits)((?: {NAME})+)|target/bin/({NAME})")
+COMMAND = re.compile(rf"(?:\brt (?:ci|must-fail|check|verdict|lib|run|test|try|tidy|plant)|\btools/edits)((?: {NAME})+)|crates/({NAME})/out/\w|cd crates/({NAME})")
 A_FILE = re.compile(r"[\w.-]+\.(?:rt|antt|rs|py|md|c|h|out|txt|toml|edit)")
 A_WORD = re.compile(r"[^\W\d][\w'-]*|\d+_\w+")
 
 
 def placeholder(path):
-    return path.startswith("target/") or ".." in path.replace("../", "") or any(w in PLACEHOLDERS for w in re.split(r"[/._-]", path))
+    return re.match(r"target/|crates/\w+/out(?:/|$)", path) or ".." in path.replace("../", "") or any(w in PLACEHOLDERS for w in re.split(r"[/._-]", path))
 
 
 def exists(path, document):
@@ -33,7 +33,7 @@ def exists(path, document):
 
 def hold_commands(line, place):
     for found in COMMAND.finditer(line):
-        for name in (found.group(1) or found.group(2)).split():
+        for name in (found.group(1) or found.group(2) or found.group(3)).split():
             if name not in crates:
                 fail(place, name, "no such crate")
 
@@ -69,6 +69,14 @@ def hold_path(span, place, document):
     if not fnmatch.filter(crate.edits, edit.group(2)):
         fail(place, span, "no such edit")
     return (f"edit of {edit.group(1)}", crate.edits)
+
+
+def hold_module(span, place):
+    """`Rattle.crate.specs.File`, `Rattle.crate.proofs.File.name`."""
+    _, crate, *path = span.split(".")
+    starts = ["/".join(["crates", crate, *path[:n]]) for n in (len(path), len(path) - 1)]
+    if starts[0] not in files and starts[0] + ".antt" not in files and path[-1] not in tokens.get(starts[1] + ".antt", ()):
+        fail(place, span, "no such module or definition")
 
 
 def hold_dotted(span, place):
@@ -114,6 +122,8 @@ def hold_spans(line, place, document):
         elif A_FILE.fullmatch(span):
             if not placeholder(span) and span not in base_names:
                 fail(place, span, "no such file")
+        elif re.fullmatch(rf"Rattle\.{NAME}\.(?:specs|proofs)(?:\.[\w'-]+)*", span):
+            hold_module(span, place)
         elif re.fullmatch(r"[A-Z]\w*(?:\.[\w-]+)+", span) and not placeholder(span):
             hold_dotted(span, place)
         elif not A_WORD.fullmatch(span) or re.fullmatch(r"[A-Z][A-Z0-9]*|[a-z_]+_[A-Z]+", span):

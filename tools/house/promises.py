@@ -6,7 +6,10 @@ from names import SPAN
 from repository import TOKEN, documents, fail, files, sources, text_of
 
 # The crates whose public functions are called from outside: each promises what it does, and asks nothing.
-PUBLIC = {"daybook", "exports", "shrinkage"}
+PUBLIC = {"daybook", "exports", "exports_c", "shrinkage"}
+
+# The files of a function's own proof.
+OF_A_FUNCTION = {"Answers.antt", "Invariants.antt", "Proof.antt"}
 
 # ---- lengths of lines
 
@@ -44,7 +47,7 @@ statements = {n for f in sources if "/specs/" in f and f.endswith(".antt") for n
 written = {t for d in documents for span in SPAN.findall(text_of(d)) for t in TOKEN.findall(span)}
 in_files = {}  # how many source files have a word
 for f in sources:
-    for word in set(re.split(r"[\s(){},.;`]+", sources[f])):
+    for word in set(re.split(r"[\s(){},.:;`]+", sources[f])):
         in_files[word] = in_files.get(word, 0) + 1
 
 
@@ -91,5 +94,5 @@ def hold():
             hold_lengths(f, 300, False)
         if source and source.group(1) in PUBLIC:
             hold_promises(f)
-        if proof and os.path.basename(f) != "Proof.antt":
+        if proof and os.path.basename(f) not in OF_A_FUNCTION:
             hold_laws(f)

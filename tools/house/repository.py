@@ -4,9 +4,9 @@ import os
 import re
 
 # Words in backticks that are of the kit, the prover and the languages.
-WORDS = {"RT_JOBS", "Lts", "ensures", "max", "min", "requires", "reserved-name", "return", "rt", "rw", "subst", "unfolding"}
-# What reads names is no place that has them.
-CHECKS = {"tools/check-docs", *glob.glob("tools/house/*.py")}
+WORDS = {"elim", "ensures", "max", "min", "requires", "reserved-name", "return", "rt", "rw", "subst", "unfolding"}
+# What reads or respells names is no place that has them.
+CHECKS = {"tools/check-docs", "tools/respell", *glob.glob("tools/house/*.py")}
 
 failures = []
 
@@ -31,10 +31,11 @@ TOKEN = re.compile(r"[^\W\d][\w'-]*|\d\w+")
 
 
 def all_files():
-    """Every file and folder, from the root."""
+    """Every file and folder, from the root, but for what is made."""
     found = set()
     for folder, below, names in os.walk("."):
-        below[:] = [b for b in below if b not in (".git", "target")]
+        made = ("out",) if re.fullmatch(r"\./crates/\w+", folder) else (".git", "target")
+        below[:] = [b for b in below if b not in made]
         found.update(os.path.normpath(os.path.join(folder, n)) for n in names + below)
     return found
 
@@ -59,10 +60,13 @@ def declared_in(path, text):
         return set(DECLARED.findall(text)) | fields | words
     if path.endswith(".antt"):
         types = set(re.findall(r"\b(?:record|data|module) ([^\s({:]+)", text))
-        taken = {n for names in re.findall(r"^(?:pub )?use (?!Rattle)[^{\n]*\{([^}]*)\}", text, re.M) for n in re.split(r"[,\s]+", names)}
+        taken = {n for names in re.findall(FROM_LIBRARIES, text, re.M) for n in re.split(r"[,\s]+", names)}
         return types | taken | {n for names in re.findall(r"^ *(?:unfoldable |abbrev )?(?:pub )?([^:=(){}]+?) :", text, re.M) for n in names.split()}
     return set(re.findall(r"\b\w*[A-Z_]\w*\b|[a-z]+(?=\()", text))
 
+
+# The names that a file brings from the kit: its own libraries are Rattle.std and those without Rattle before them.
+FROM_LIBRARIES = rf"^(?:pub )?use (?!Rattle\.(?:{'|'.join(sorted(os.listdir('crates')))})\.)[^{{\n]*\{{([^}}]*)\}}"
 
 files = all_files()
 base_names = {os.path.basename(f) for f in files}
@@ -107,4 +111,6 @@ def parts(name):
     """The crate and the package of a name."""
     return [p[name] for p in (crates, packages) if name in p]
 
-documents = sorted(f for f in files if f.endswith(".md") and not f.startswith("docs/landings/"))
+# Notes name what went.
+NOTES = ("docs/landings/", "docs/PORT.md", "PORTING-LEFT.md")
+documents = sorted(f for f in files if f.endswith(".md") and not f.startswith(NOTES))

@@ -12,7 +12,7 @@
 //! write what they are given in another form: [`write()`], [`Log::start`],
 //! [`record_wise`].
 //!
-//! The engine is the archive `libexports.a`, made by `rt staticlib exports`
+//! The engine is the archive `libexports.a`, made by `tools/staticlib`
 //! from crates that are proved to meet the documents. This package turns its C
 //! interface into Rust types and computes nothing itself, but for the sum of
 //! [`Operator::most_reductions`] and the places of [`Columns`]. The return of retained
