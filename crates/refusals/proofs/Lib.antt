@@ -1,0 +1,2 @@
+-- What follows for the numbers of refusals.
+pub mod Numbers
