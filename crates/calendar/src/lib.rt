@@ -11,7 +11,7 @@ pub const MONTH_LENGTHS: [u8; 12] = [31, 28, 31, 30, 31, 30, 31, 31, 30, 31, 30,
 pub fn leap(year: u32) -> bool
     ensures { result ≡ leap_year year }
 {
-    (year % 4 == 0) & ((year % 100 != 0) | (year % 400 == 0))
+    year % 4 == 0 && (year % 100 != 0 || year % 400 == 0)
 }
 
 // The table's days of a month, as every year has them but for February of a leap year. 2023 is such a common year.
@@ -19,8 +19,7 @@ fn common_length(month: u32) -> u32
     requires { (1 ≤ month) × (month ≤ 12) }
     ensures { (result ≡ days_in_month 2023 month) × (result < 32) }
 {
-    let place = (month - 1) as usize;
-    MONTH_LENGTHS[place] as u32
+    MONTH_LENGTHS[(month - 1) as usize] as u32
 }
 
 // The days of a month of a year: the table's, and one more in February of a leap year.
@@ -29,12 +28,11 @@ pub fn month_length(year: u32, month: u32) -> u32
     ensures { result ≡ days_in_month year month }
 {
     let days = common_length(month);
-    if month == 2 {
-        if leap(year) {
-            return days + 1;
-        }
+    if month == 2 && leap(year) {
+        days + 1
+    } else {
+        days
     }
-    days
 }
 
 // Whether a date, year × 10,000 + month × 100 + day, is a real day of 2020 to 2099. Any number may be asked.
@@ -44,16 +42,8 @@ pub fn is_real_day(date: u32) -> bool
     let year = date / 10000;
     let month = date / 100 % 100;
     let day = date % 100;
-    if year < 2020 {
-        return false;
-    }
-    if 2099 < year {
-        return false;
-    }
-    if month < 1 {
-        return false;
-    }
-    if 12 < month {
+    // Not `(2020..=2099).contains(&year)`: std's contract speaks of the range as an iterator, and its proof did not close.
+    if year < 2020 || 2099 < year || month < 1 || 12 < month {
         return false;
     }
     (1 <= day) & (day <= month_length(year, month))

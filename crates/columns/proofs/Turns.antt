@@ -1,5 +1,5 @@
 -- The turns of the loops: one over the records of a column, and one over the columns each way. Assumes nothing.
-use mathlib.Core.{Bool.Bool, List.List, List.[], List.◌∷◌, List.◌++◌, List.map, List.map-id, List.map-map, List.append_assoc, List.append-nil}
+use mathlib.Core.{Bool.Bool, Bool.true, Bool.false, List.List, List.[], List.◌∷◌, List.◌++◌, List.map, List.map-id, List.map-map, List.append_assoc, List.append-nil}
 use mathlib.Core.Path.{◌≡◌, refl, fun_ext, subst, sym, ap, ap₂, ◌∙◌}
 use borrow.Rule.Slice.PartMut.{put_mid}
 use Prim.Native.Nat.{ℕ, zero, suc, ◌+◌, ◌-◌, ◌*◌, ◌<◌, ◌≤◌}
@@ -200,6 +200,44 @@ module _ {ws : List ℕ} {long n : ℕ} {s entry : List ℕ} where
       (rw end.0 at before.answer)
       ∙ ap (λ (k : ℕ). stored ws n k s 0 entry 0) (sym e)
       ∙ stored_all ws n s entry (f.source ∙ ap (λ (k : ℕ). k * n) (sym e)) (f.target ∙ ap (λ (k : ℕ). k * n) (sym e))
+
+-- ---- either way
+
+-- where j columns are stored in the records, or, the other way, written
+abbrev Way : Bool → List ℕ → ℕ → ℕ → List ℕ → List ℕ → List ℕ → ℕ → ℕ → ℕ → Type 0
+Way true ws long n s entry out j at begin = Recording ws long n s entry out j at begin
+Way false ws long n s entry out j at begin = Columning ws long n s out j at begin
+
+pub record Arranging (back : Bool) (ws : List ℕ) (long n : ℕ) (s entry out : List ℕ) (j at begin : ℕ) : Type 0 where
+  pub here : Column ws long n j at begin
+  pub way : Way back ws long n s entry out j at begin
+
+pub arranging_start : (back : Bool) {ws : List ℕ} {long n : ℕ} {s entry : List ℕ} → Filled ws long n (length s) (length entry) → Arranging back ws long n s entry entry 0 0 0
+arranging_start true f = record { here = column_start f.fields; way = recording_start f.fields }
+arranging_start false f = record { here = column_start f.fields; way = columning_start f.fields f.target }
+
+module _ {back : Bool} {ws : List ℕ} {long n : ℕ} {s entry out : List ℕ} {j at begin w : ℕ} (filled : Filled ws long n (length s) (length entry)) (before : Arranging back ws long n s entry out j at begin) (h : j < length ws) (is : w ≡ get_or ws j 0) where
+  pub back_movable : back ≡ true → Movable w n begin w (length s) at long (length out)
+  back_movable e = recording_movable filled (rw e at before.way) h is
+
+  pub forth_movable : back ≡ false → Movable w n at long (length s) begin w (length out)
+  forth_movable e = columning_movable filled (rw e at before.way) h is
+
+  pub back_turn : {after : List ℕ} → back ≡ true → after ≡ moved w n s begin w out at long → Arranging back ws long n s entry after (j + 1) (at + w) (begin + w * n)
+  back_turn e q =
+      let turned = recording_turn (rw e at before.way) h is q in
+      record { here = turned.here; way = rw e turned }
+
+  pub forth_turn : {after : List ℕ} → back ≡ false → after ≡ moved w n s at long out begin w → Arranging back ws long n s entry after (j + 1) (at + w) (begin + w * n)
+  forth_turn e q =
+      let turned = columning_turn filled.source (rw e at before.way) h is q in
+      record { here = turned.here; way = rw e turned }
+
+pub arranging_end : (back : Bool) {ws : List ℕ} {long n : ℕ} {s entry out : List ℕ} {j at begin : ℕ} → Filled ws long n (length s) (length entry)
+    → Arranging back ws long n s entry out j at begin → length ws ≤ j → out ≡ arranged back ws n s
+unfolding arranged
+arranging_end true f before h = recording_end f before.way h
+arranging_end false f before h = columning_end f.fields before.way h
 
 -- ---- a part of each list
 

@@ -7,15 +7,12 @@ ghost use Rattle.std.specs.Prelude.{◌≡◌, ◌<◌, min};
 pub fn index(byte: u8) -> usize
     ensures { (result ≡ byte) × (result < 256) }
 {
-    byte as usize
+    usize::from(byte)
 }
 
 // The lesser of two indices, or of two numbers of elements.
 pub fn lesser(one: usize, other: usize) -> usize
     ensures { result ≡ min one other }
 {
-    if one < other {
-        return one;
-    }
-    other
+    one.min(other)
 }

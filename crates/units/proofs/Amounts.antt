@@ -1,5 +1,5 @@
 -- The parts of a signed amount that is kept with an offset, and the tests of a range, as linear facts for `omega`. Assumes nothing.
-use Rattle.base.specs.Basics.{◌≡◌, refl, sym, ◌∙◌, ap, Bool, true, false, cond, ◌&&◌, ℕ, ◌+◌, ◌-◌, ◌<◌, ◌≤◌, ◌^◌, arith, leb, ℤ, pos, nat_abs, ◌+ℤ◌}
+use Rattle.base.specs.Basics.{◌≡◌, refl, sym, ◌∙◌, ap, true, false, ◌&&◌, ℕ, ◌+◌, ◌-◌, ◌<◌, ◌≤◌, ◌^◌, arith, leb, ℤ, pos, nat_abs, ◌+ℤ◌}
 use Rattle.base.specs.Basics.{◌-ℤ◌, sub_ℕ, le-leb, lt-leb, leb-true}
 use Rattle.base.specs.Parts.{pos_part, neg_part}
 use Rattle.base.proofs.Linear.{by_order, pos_part_diff, neg_part_diff, eq_parts, parts_add, parts_sub, abs_parts}
@@ -78,11 +78,3 @@ add_difference x old new amount e =
     eq_parts (x +ℤ (new -ℤ old)) (x +ℤ amount)
     (omega
     (arith, parts_add x (new -ℤ old), parts_sub new old, parts_add x amount, parts_add old amount, ap pos_part e, ap neg_part e))
-
--- ---- what a posting says where it is accepted: its entry is the sum, and in range
-pub accepted-entry : (old : ℤ) {accepted : Bool} {sum entry : ℤ}
-    → accepted ≡ within 1000000 sum → entry ≡ cond accepted sum old → accepted ≡ true
-    → (entry ≡ sum) × (within 1000000 entry ≡ true)
-accepted-entry old {sum = sum} {entry = entry} a e h =
-    let same : entry ≡ sum = e ∙ ap (λ (b : Bool). cond b sum old) h in
-    (same, ap (within 1000000) same ∙ sym a ∙ h)

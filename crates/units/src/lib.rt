@@ -12,22 +12,15 @@ ghost use Rattle.units.specs.Amounts.{net, balance};
 ghost use Rattle.units.specs.Prices.{as_prices, InRange};
 ghost use Rattle.units.specs.Limits.{as_limits, LimitsInRange};
 
+use std::fmt;
+
 mod postings;
 
-pub use postings::{Flow, Posted};
+pub use postings::Flow;
 
-// What a number is above another, and 0 where it is not: max(0, a − b).
-fn excess(a: u64, b: u64) -> u64
-    ensures { result ≡ a - b }
-{
-    if a < b {
-        return 0;
-    }
-    a - b
-}
-
-// An energy, in MWh. Energies are added to energies alone, and taken from them.
-#[derive(Clone, Copy)]
+// An energy, in MWh. Energies are added to energies alone, and taken from them. `plus` is a method and no operator, here and below: it asks
+// that the sum fits, and the trait of `+` asks nothing.
+#[derive(Clone, Copy, PartialEq, Eq, PartialOrd, Ord)]
 pub struct Energy(pub u64);
 
 impl Energy {
@@ -43,12 +36,12 @@ impl Energy {
     pub fn less(self, other: Energy) -> Energy
         ensures { result.0 ≡ self.0 - other.0 }
     {
-        Energy(excess(self.0, other.0))
+        Energy(self.0.saturating_sub(other.0))
     }
 }
 
 // The energy of a trade, in MWh: one that fits the 32 bits of its record.
-#[derive(Clone, Copy)]
+#[derive(Clone, Copy, PartialEq, Eq, PartialOrd, Ord)]
 pub struct Mwh(pub u32);
 
 impl Mwh {
@@ -56,8 +49,7 @@ impl Mwh {
     pub fn energy(self) -> Energy
         ensures { result.0 ≡ self.0 }
     {
-        let x = self.0;
-        Energy(x as u64)
+        Energy(self.0 as u64)
     }
 
     // This energy and another together.
@@ -77,7 +69,7 @@ impl Mwh {
 }
 
 // A sum of money, in cents. Money is added to money alone, taken from it and compared with it.
-#[derive(Clone, Copy)]
+#[derive(Clone, Copy, PartialEq, Eq, PartialOrd, Ord)]
 pub struct Cents(pub u64);
 
 impl Cents {
@@ -93,14 +85,14 @@ impl Cents {
     pub fn less(self, other: Cents) -> Cents
         ensures { result.0 ≡ self.0 - other.0 }
     {
-        Cents(excess(self.0, other.0))
+        Cents(self.0.saturating_sub(other.0))
     }
 
     // Is this sum of money more than another?
     pub fn exceeds(self, other: Cents) -> bool
         ensures { result ≡ ltb other.0 self.0 }
     {
-        other.0 < self.0
+        other < self
     }
 }
 
@@ -116,8 +108,7 @@ impl Price {
         ensures result_value { result.0 ≡ energy.0 * self.0 }
         ensures result_bound { result.0 ≤ 300000 * energy.0 }
     {
-        let price = self.0;
-        Cents(energy.0 * price as u64)
+        Cents(energy.0 * self.0 as u64)
     }
 }
 
@@ -146,11 +137,10 @@ impl Net {
     pub fn bits(self) -> u32
         ensures { result ≡ bits_of 32 (net self) }
     {
-        let x = self.0;
-        if x < Net::OFFSET {
-            x + Net::OFFSET
+        if self.0 < Net::OFFSET {
+            self.0 + Net::OFFSET
         } else {
-            x - Net::OFFSET
+            self.0 - Net::OFFSET
         }
     }
 
@@ -159,8 +149,7 @@ impl Net {
         ensures result_value { result.0 ≡ pos_part (net self) }
         ensures result_bound { result.0 < 2 ^ 31 }
     {
-        let x = self.0;
-        Energy(excess(x as u64, Net::OFFSET as u64))
+        Energy(self.0.saturating_sub(Net::OFFSET) as u64)
     }
 
     // How short it is: what it is below 0.
@@ -168,16 +157,14 @@ impl Net {
         ensures result_value { result.0 ≡ neg_part (net self) }
         ensures result_bound { result.0 ≤ 2 ^ 31 }
     {
-        let x = self.0;
-        Energy(excess(Net::OFFSET as u64, x as u64))
+        Energy(Net::OFFSET.saturating_sub(self.0) as u64)
     }
 
-    // Is it within the range of a physical entry, a million MWh either way?
+    // Is it within the range of a physical entry, a million MWh either way? `&` leaves out a branch for each amount of each user.
     pub fn is_entry(self) -> bool
         ensures { result ≡ within 1000000 (net self) }
     {
-        let x = self.0;
-        (Net::OFFSET - 1000000 <= x) & (x <= Net::OFFSET + 1000000)
+        (Net::OFFSET - 1000000 <= self.0) & (self.0 <= Net::OFFSET + 1000000)
     }
 
     // More by an energy.
@@ -185,8 +172,7 @@ impl Net {
         requires { pos_part (net self) + energy.0 < 2 ^ 31 }
         ensures { net result ≡ net self +ℤ pos energy.0 }
     {
-        let x = self.0;
-        Net((x as u64 + energy.0) as u32)
+        Net((self.0 as u64 + energy.0) as u32)
     }
 
     // Less by an energy.
@@ -194,8 +180,7 @@ impl Net {
         requires { neg_part (net self) + energy.0 ≤ 2 ^ 31 }
         ensures { net result ≡ net self -ℤ pos energy.0 }
     {
-        let x = self.0;
-        Net((x as u64 - energy.0) as u32)
+        Net((self.0 as u64 - energy.0) as u32)
     }
 
     // A position after its physical entry went from `old` to `new`: it moves by the same amount.
@@ -204,14 +189,25 @@ impl Net {
         requires value { (within 1000000 (net old) ≡ true) × (within 1000000 (net new) ≡ true) }
         ensures { net result ≡ net self +ℤ (net new -ℤ net old) }
     {
-        let x = self.0;
-        let from = old.0;
-        let to = new.0;
-        Net((x as u64 + to as u64 - from as u64) as u32)
+        Net((self.0 as u64 + new.0 as u64 - old.0 as u64) as u32)
     }
 }
 
-// Money with a sign, in cents: kept as the money + 2^63.
+// The energy with its sign.
+impl fmt::Display for Net {
+    fn fmt<W: fmt::Write>(&self, f: &mut fmt::Formatter<W>) -> fmt::Result {
+        let short = self.short().0;
+        if 0 < short {
+            write!(f, "-{short}")
+        } else {
+            let long = self.long().0;
+            write!(f, "{long}")
+        }
+    }
+}
+
+// Money with a sign, in cents: kept as the money + 2^63. It is a type apart from `Net`, so that money and energy are never mixed; each has
+// the width of its field in a book.
 #[derive(Clone, Copy)]
 pub struct Balance(pub u64);
 
@@ -236,11 +232,10 @@ impl Balance {
     pub fn bits(self) -> u64
         ensures { result ≡ bits_of 64 (balance self) }
     {
-        let x = self.0;
-        if x < Balance::OFFSET {
-            x + Balance::OFFSET
+        if self.0 < Balance::OFFSET {
+            self.0 + Balance::OFFSET
         } else {
-            x - Balance::OFFSET
+            self.0 - Balance::OFFSET
         }
     }
 
@@ -249,8 +244,7 @@ impl Balance {
         ensures result_value { result.0 ≡ pos_part (balance self) }
         ensures result_bound { result.0 < 2 ^ 63 }
     {
-        let x = self.0;
-        Cents(excess(x, Balance::OFFSET))
+        Cents(self.0.saturating_sub(Balance::OFFSET))
     }
 
     // What is to the user's credit: what it is below 0.
@@ -258,22 +252,20 @@ impl Balance {
         ensures result_value { result.0 ≡ neg_part (balance self) }
         ensures result_bound { result.0 ≤ 2 ^ 63 }
     {
-        let x = self.0;
-        Cents(excess(Balance::OFFSET, x))
+        Cents(Balance::OFFSET.saturating_sub(self.0))
     }
 
     // Is it within the range of charges, 10^12 cents either way?
     pub fn is_charges(self) -> bool
         ensures { result ≡ within 1000000000000 (balance self) }
     {
-        let x = self.0;
-        (Balance::OFFSET - 1000000000000 <= x) & (x <= Balance::OFFSET + 1000000000000)
+        (Balance::OFFSET - 1000000000000 <= self.0) & (self.0 <= Balance::OFFSET + 1000000000000)
     }
 }
 
 // The prices of a day, in cents per MWh: the tariffs P of PVB and Q of TVB and AVB, the tolls L for liquefaction, X for PVB exit and I for
 // injection, and the selling tariffs S of PVB and U of TVB and AVB, 0 in a version of the book that has none.
-#[derive(Clone, Copy)]
+#[derive(Clone, Copy, Default)]
 pub struct Prices {
     pub p: u32,
     pub q: u32,
@@ -302,8 +294,7 @@ impl Area {
         ensures result_value { result.0 ≡ tariff (as_prices prices) self.0 }
         ensures le_result { (1 ≤ result.0) × (result.0 ≤ 100000) }
     {
-        let code = self.0;
-        if code == Area::PVB {
+        if self.0 == Area::PVB {
             Price(prices.p)
         } else {
             Price(prices.q)
@@ -316,8 +307,7 @@ impl Area {
         ensures result_value { result.0 ≡ reference_price_of (as_prices prices) self.0 }
         ensures le_result { (1 ≤ result.0) × (result.0 ≤ 300000) }
     {
-        let code = self.0;
-        match code {
+        match self.0 {
             Area::PVB => Price(prices.p),
             Area::TVB => Price(prices.q + prices.l),
             _ => Price(prices.q + prices.x + prices.i),
@@ -330,8 +320,7 @@ impl Area {
         ensures result_value { result.0 ≡ selling_tariff_of (as_prices prices) self.0 }
         ensures result_bound { result.0 ≤ 100000 }
     {
-        let code = self.0;
-        if code == Area::PVB {
+        if self.0 == Area::PVB {
             Price(prices.s)
         } else {
             Price(prices.u)

@@ -1,5 +1,5 @@
 // A posting to a physical entry: the energy that a signed amount brings in or takes out, and the entry after it.
-ghost use Rattle.std.specs.Prelude.{◌≡◌, cond, ◌≤◌, ◌<◌, ◌^◌, ◌+ℤ◌};
+ghost use Rattle.std.specs.Prelude.{◌≡◌, true, false, MatchOption, ◌≤◌, ◌<◌, ◌^◌, ◌+ℤ◌};
 ghost use Rattle.base.specs.Parts.{pos_part, neg_part};
 ghost use Rattle.rules.specs.Signed.{within};
 ghost use Rattle.units.specs.Amounts.{net};
@@ -19,51 +19,34 @@ impl Flow {
         ensures inflow_value { (result.inflow.0 ≡ pos_part amount) × (result.outflow.0 ≡ neg_part amount) }
         ensures inflow_bound { (result.inflow.0 < 2 ^ 63) × (result.outflow.0 ≤ 2 ^ 63) }
     {
+        let size = Energy(amount.unsigned_abs());
         if amount < 0 {
-            return Flow {
+            Flow {
                 inflow: Energy(0),
-                outflow: Energy((-1 - amount) as u64 + 1),
-            };
-        }
-        Flow {
-            inflow: Energy(amount as u64),
-            outflow: Energy(0),
+                outflow: size,
+            }
+        } else {
+            Flow {
+                inflow: size,
+                outflow: Energy(0),
+            }
         }
     }
 }
 
-// A posting: whether it is accepted, and the physical entry after it.
-#[derive(Clone, Copy)]
-pub struct Posted {
-    pub accepted: bool,
-    pub entry: Net,
-}
-
-impl Posted {
-    // An amount is posted to a physical entry. It is accepted where the sum is within the range of an entry; else the entry stays.
-    pub fn of(old: Net, amount: i64) -> Posted
-        ensures accepted_value { result.accepted ≡ within 1000000 (net old +ℤ amount) }
-        ensures result_value { net result.entry ≡ cond result.accepted (net old +ℤ amount) (net old) }
+impl Net {
+    // This physical entry after a signed amount is posted to it; none where the sum is outside the range of an entry.
+    pub fn posted(self, amount: i64) -> Option<Net>
+        ensures { MatchOption result (within 1000000 (net self +ℤ amount) ≡ false)
+            (λ entry. (within 1000000 (net self +ℤ amount) ≡ true) × (net entry ≡ net self +ℤ amount)) }
     {
-        let x = old.0;
         let flow = Flow::of(amount);
-        let above = x as u64 + flow.inflow.0;
+        let above = self.0 as u64 + flow.inflow.0;
         let below = Net::OFFSET as u64 + flow.outflow.0;
-        if above + 1000000 < below {
-            return Posted {
-                accepted: false,
-                entry: old,
-            };
-        }
-        if below + 1000000 < above {
-            return Posted {
-                accepted: false,
-                entry: old,
-            };
-        }
-        Posted {
-            accepted: true,
-            entry: Net((above - flow.outflow.0) as u32),
+        if above + 1000000 < below || below + 1000000 < above {
+            None
+        } else {
+            Some(Net((above - flow.outflow.0) as u32))
         }
     }
 }

@@ -1,8 +1,16 @@
 -- The three tests are those of the Gregorian rule.
-use Rattle.std.proofs.Common.{rules}
+use borrow.Author.Tests.{eq-eqb, ne_eqb}
 use Rattle.rules.specs.Calendar.{leap_year}
 use Rattle.calendar.proofs.leap.Goals as goal
 
-pub returns : goal.returns
+pub returns-then-year-ne0 : goal.returns-then-year-ne0
 unfolding leap_year
-returns c = search rules
+returns-then-year-ne0 c = rw (eq-eqb _ _ c.if-year-eq0.true, ne_eqb _ _ c.if-year-ne0.true)
+
+pub returns-else-year-ne0 : goal.returns-else-year-ne0
+unfolding leap_year
+returns-else-year-ne0 c = rw (eq-eqb _ _ c.if-year-eq0.true, eq-eqb _ _ c.if-year-ne0.false)
+
+pub returns-else-year-eq0 : goal.returns-else-year-eq0
+unfolding leap_year
+returns-else-year-eq0 c = rw (ne_eqb _ _ c.if-year-eq0.false)

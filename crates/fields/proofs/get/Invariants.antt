@@ -1,10 +1,7 @@
 -- The field is read from its last byte down: what is read so far is the field of its last k bytes.
-use Rattle.std.proofs.Common.{◌≡◌, ◌+◌, ◌-◌, ◌≤◌}
+use Rattle.std.proofs.Common.{◌≡◌, ◌+◌, ◌-◌}
 use Rattle.fields.specs.Field.{field}
 use Rattle.fields.proofs.get.Given as goal
 
 abbrev pub invariant-loop-k : goal.invariant-loop-k
-invariant-loop-k l = record { within : l.k ≤ l.w; read : l.n ≡ field l.k (l.at + (l.w - l.k)) l.s }
-
-abbrev pub decreases-loop-k : goal.decreases-loop-k
-decreases-loop-k l = l.w - l.k
+invariant-loop-k l = l.n ≡ field l.k (l.at + (l.w - l.k)) l.s

@@ -5,17 +5,17 @@ use Rattle.fields.specs.Field.{to_bytes, set_field}
 use Rattle.fields.proofs.Field.{to_bytes_step}
 use Rattle.fields.proofs.put.Goals as goal
 
-pub loop-k-preserved : goal.loop-k-preserved
-loop-k-preserved c =
-    let e : c.args.at + (c.args.w - (c.loop-k.k - 1)) ≡ c.args.at + (c.args.w - c.loop-k.k) + 1 = omega arith in
+pub loop-i-preserved : goal.loop-i-preserved
+loop-i-preserved c =
+    let e : c.args.at + (c.loop-i.i + 1) ≡ c.args.at + c.loop-i.i + 1 = omega arith in
+    let k : c.args.w - (c.loop-i.i + 1) ≡ c.args.w - c.loop-i.i - 1 = omega arith in
     record {
-      within = omega arith;
-      as_long = simp length-set c.loop-k.invariant.as_long;
-      left = rw (e, ← to_bytes_step c.loop-k.k (c.args.at + (c.args.w - c.loop-k.k)) c.loop-k.x c.loop-k.s (omega arith)) c.loop-k.invariant.left;
+      as_long = simp length-set c.loop-i.invariant.as_long;
+      left = rw (e, k, ← to_bytes_step (c.args.w - c.loop-i.i) (c.args.at + c.loop-i.i) c.loop-i.x c.loop-i.s (omega arith)) c.loop-i.invariant.left;
     }
 
 pub returns : goal.returns
 unfolding set_field to_bytes
 returns c =
-    let k : c.loop-k.k ≡ 0 = omega arith in
-    rw k at c.loop-k.invariant.left
+    let k : c.args.w - c.loop-i.i ≡ 0 = omega arith in
+    rw k at c.loop-i.invariant.left

@@ -3,10 +3,10 @@ use Rattle.std.proofs.Common.{eq-eqb, ne_eqb}
 use Rattle.rules.specs.Areas.{selling_tariff_of}
 use Rattle.units.proofs.Area.selling_tariff.Goals as goal
 
-pub returns-then-code-eq-PVB-clause-result_value : goal.returns-then-code-eq-PVB-clause-result_value
+pub returns-then-self-eq-PVB-clause-result_value : goal.returns-then-self-eq-PVB-clause-result_value
 unfolding selling_tariff_of
-returns-then-code-eq-PVB-clause-result_value c = rw (eq-eqb _ _ c.if-code-eq-PVB.true)
+returns-then-self-eq-PVB-clause-result_value c = rw (eq-eqb _ _ c.if-self-eq-PVB.true)
 
-pub returns-else-code-eq-PVB-clause-result_value : goal.returns-else-code-eq-PVB-clause-result_value
+pub returns-else-self-eq-PVB-clause-result_value : goal.returns-else-self-eq-PVB-clause-result_value
 unfolding selling_tariff_of
-returns-else-code-eq-PVB-clause-result_value c = rw (ne_eqb _ _ c.if-code-eq-PVB.false)
+returns-else-self-eq-PVB-clause-result_value c = rw (ne_eqb _ _ c.if-self-eq-PVB.false)

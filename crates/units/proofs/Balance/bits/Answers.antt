@@ -4,10 +4,10 @@ use Rattle.units.proofs.TwosComplement.{bits_of_below, bits_of_from}
 use Rattle.units.specs.Amounts.{balance}
 use Rattle.units.proofs.Balance.bits.Goals as goal
 
-pub returns-then-x-lt-OFFSET : goal.returns-then-x-lt-OFFSET
+pub returns-then-self-lt-OFFSET : goal.returns-then-self-lt-OFFSET
 unfolding balance
-returns-then-x-lt-OFFSET c = bits_of_below 64 (2 ^ 63) refl c.args.self.0 c.if-x-lt-OFFSET.true
+returns-then-self-lt-OFFSET c = bits_of_below 64 (2 ^ 63) refl c.args.self.0 c.if-self-lt-OFFSET.true
 
-pub returns-else-x-lt-OFFSET : goal.returns-else-x-lt-OFFSET
+pub returns-else-self-lt-OFFSET : goal.returns-else-self-lt-OFFSET
 unfolding balance
-returns-else-x-lt-OFFSET c = bits_of_from 64 (2 ^ 63) refl c.args.self.0 c.if-x-lt-OFFSET.false
+returns-else-self-lt-OFFSET c = bits_of_from 64 (2 ^ 63) refl c.args.self.0 c.if-self-lt-OFFSET.false

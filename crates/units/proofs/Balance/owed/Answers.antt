@@ -4,4 +4,4 @@ use Rattle.units.proofs.Amounts.{pos_part-balance}
 use Rattle.units.proofs.Balance.owed.Goals as goal
 
 pub returns-clause-result_value : goal.returns-clause-result_value
-returns-clause-result_value c = omega (arith, pos_part-balance c.args.self, c.excess.ensures)
+returns-clause-result_value c = omega (arith, pos_part-balance c.args.self)

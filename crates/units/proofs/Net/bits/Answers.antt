@@ -4,10 +4,10 @@ use Rattle.units.proofs.TwosComplement.{bits_of_below, bits_of_from}
 use Rattle.units.specs.Amounts.{net}
 use Rattle.units.proofs.Net.bits.Goals as goal
 
-pub returns-then-x-lt-OFFSET : goal.returns-then-x-lt-OFFSET
+pub returns-then-self-lt-OFFSET : goal.returns-then-self-lt-OFFSET
 unfolding net
-returns-then-x-lt-OFFSET c = bits_of_below 32 (2 ^ 31) refl c.args.self.0 c.if-x-lt-OFFSET.true
+returns-then-self-lt-OFFSET c = bits_of_below 32 (2 ^ 31) refl c.args.self.0 c.if-self-lt-OFFSET.true
 
-pub returns-else-x-lt-OFFSET : goal.returns-else-x-lt-OFFSET
+pub returns-else-self-lt-OFFSET : goal.returns-else-self-lt-OFFSET
 unfolding net
-returns-else-x-lt-OFFSET c = bits_of_from 32 (2 ^ 31) refl c.args.self.0 c.if-x-lt-OFFSET.false
+returns-else-self-lt-OFFSET c = bits_of_from 32 (2 ^ 31) refl c.args.self.0 c.if-self-lt-OFFSET.false

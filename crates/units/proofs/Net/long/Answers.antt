@@ -4,4 +4,4 @@ use Rattle.units.proofs.Amounts.{pos_part-net}
 use Rattle.units.proofs.Net.long.Goals as goal
 
 pub returns-clause-result_value : goal.returns-clause-result_value
-returns-clause-result_value c = omega (arith, pos_part-net c.args.self, c.excess.ensures)
+returns-clause-result_value c = omega (arith, pos_part-net c.args.self)
