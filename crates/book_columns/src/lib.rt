@@ -34,10 +34,10 @@ fn arrange_users(s: &[u8], version: u16, at: usize, n: usize, back: bool, out: &
     if book_format::has_managers(version) {
         let widths = [4u8, 1, 3, 4, 4, 4, 4, 4, 4, 8, 8, 8, 4, 4, 4];
         columns::arrange(s, at, n, book_records::MANAGED_SIZE, &widths, back, out);
-        return;
+    } else {
+        let widths = [4u8, 1, 3, 4, 4, 4, 4, 4, 4, 8, 8, 8];
+        columns::arrange(s, at, n, book_records::USER_SIZE, &widths, back, out);
     }
-    let widths = [4u8, 1, 3, 4, 4, 4, 4, 4, 4, 8, 8, 8];
-    columns::arrange(s, at, n, book_records::USER_SIZE, &widths, back, out);
 }
 
 // Arranges the m trades of a version that begin at `at`.

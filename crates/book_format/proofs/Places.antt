@@ -90,10 +90,6 @@ module _ {s : List ℕ} {place : ℕ} (p : UserIn s place) where
 -- ---- a trade
 
 module _ {s : List ℕ} {at place : ℕ} (p : TradeIn s at place) where
-  -- there are at most 256 trades
-  pub trade_low : place < 256
-  trade_low = omega (arith, p.form.trades, p.inside)
-
   -- its bytes
   pub trade_lies : at + 20 * place + 20 ≤ length s
   trade_lies = omega (arith, p.form.whole, p.begin, p.inside)

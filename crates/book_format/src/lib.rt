@@ -20,7 +20,7 @@ use book_records::{Trade, User};
 
 // ---- versions and their sizes
 
-// Is a book of this version read?
+// Is a book of this version read? Here and below the tests stand as the definition has them: `matches!` takes a proof for each of its arms.
 pub fn is_known(version: u16) -> bool
     ensures { result ≡ version_known version }
 {
@@ -46,10 +46,7 @@ pub fn header_size(version: u16) -> usize
     ensures value { result ≡ size_of_header version }
     ensures lower_bound { (32 ≤ result) × (result ≤ 40) }
 {
-    if has_selling(version) {
-        return 40;
-    }
-    32
+    if has_selling(version) { 40 } else { 32 }
 }
 
 // The bytes of a user's record.
@@ -58,9 +55,10 @@ pub fn user_size(version: u16) -> usize
     ensures lower_bound { (56 ≤ result) × (result ≤ 68) }
 {
     if has_managers(version) {
-        return book_records::MANAGED_SIZE;
+        book_records::MANAGED_SIZE
+    } else {
+        book_records::USER_SIZE
     }
-    book_records::USER_SIZE
 }
 
 // The length of a book of n users and m trades.

@@ -4,6 +4,7 @@
 
 ghost use Rattle.std.specs.Prelude.{◌≡◌, ◌+◌, ◌≤◌, length, ◌∷◌, []};
 ghost use Rattle.std.proofs.lemmas.List.Edits.{sets};
+ghost use Rattle.refusals.specs.Refusal.{number_in};
 ghost use Rattle.rules.specs.Questions.{prices_are_valid, most_selling, selling_is_valid, header_is_valid};
 ghost use Rattle.units.specs.Prices.{as_prices};
 ghost use Rattle.book_format.specs.Questions.{marked, versioned, sized, form_number_of};
@@ -11,6 +12,7 @@ ghost use Rattle.fields.specs.Layout.{set_fields};
 ghost use Rattle.book_format.specs.Book.{mark, size_of_header, prices_of, selling_tariff_at, selling_bytes};
 ghost use Rattle.book_format.specs.Places.{HeaderIn};
 
+use refusals::Refusal;
 use units::Prices;
 
 // ---- 1 to 3
@@ -44,20 +46,20 @@ fn is_sized(s: &[u8]) -> bool
         & ((m <= 256) & (s.len() == book_format::book_length(book_format::version(s), n, m)))
 }
 
-// The number of the first of the questions 1 to 3 that is answered by no, 0 where there is none.
-pub fn form_number(s: &[u8]) -> u32
-    ensures { result ≡ form_number_of s.now }
+// Asks the questions 1 to 3, in their order.
+pub fn ask_form(s: &[u8]) -> Result<(), Refusal>
+    ensures { number_in result ≡ form_number_of s.now }
 {
     if !is_marked(s) {
-        return 1;
+        return Err(Refusal::Unmarked);
     }
     if !is_versioned(s) {
-        return 2;
+        return Err(Refusal::UnknownVersion);
     }
     if !is_sized(s) {
-        return 3;
+        return Err(Refusal::WrongLength);
     }
-    0
+    Ok(())
 }
 
 // ---- 4
@@ -75,9 +77,10 @@ fn selling_most(version: u16) -> u32
     ensures { result ≡ most_selling version }
 {
     if book_format::has_selling(version) {
-        return 100000;
+        100000
+    } else {
+        0
     }
-    0
 }
 
 // Are the selling tariffs in the range of their version?
@@ -106,9 +109,10 @@ fn selling_at(s: &[u8], at: usize) -> u32
     ensures { result ≡ selling_tariff_at at s.now }
 {
     if book_format::has_selling(book_format::version(s)) {
-        return fields::get_u32(s, at);
+        fields::get_u32(s, at)
+    } else {
+        0
     }
-    0
 }
 
 // The prices and tolls of the header, selling tariffs with them.

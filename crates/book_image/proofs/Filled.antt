@@ -1,5 +1,5 @@
 -- A part filled: bytes at its front, and 0 behind them. Assumes nothing.
-use Rattle.base.specs.Basics.{◌≡◌, ap, ◌∙◌, List, ◌++◌, ℕ, ◌+◌, ◌-◌, ◌≤◌, arith, length, take, drop, length-append}
+use Rattle.base.specs.Basics.{◌≡◌, ap, ◌∙◌, List, ◌++◌, ℕ, ◌+◌, ◌≤◌, arith, length, take, drop, length-append}
 use Rattle.base.specs.Basics.{length-replicate, sets}
 use Rattle.fields.proofs.Sets.{part_sets, length_part}
 use Rattle.book_image.specs.Image.{padded}

@@ -3,7 +3,7 @@
 // image, and written from the fields of one: the bytes of that book are asked what any bytes are asked.
 #![tactic(auto)]
 
-ghost use Rattle.std.specs.Prelude.{◌≡◌, ◌-◌, ◌≤◌, ◌+◌, ◌*◌, T, length, replicate, take, drop};
+ghost use Rattle.std.specs.Prelude.{◌≡◌, ◌-◌, ◌≤◌, ◌+◌, ◌*◌, T, length, take, drop};
 ghost use Rattle.std.proofs.lemmas.List.Edits.{sets};
 ghost use Rattle.book_format.specs.Book.{length_by, version_of, count_of_users, mark, count_of_trades, user_record, size_of_user, bytes_of};
 ghost use Rattle.rules.specs.Questions.{version_known};
@@ -17,6 +17,9 @@ ghost use Rattle.book_image.specs.Zeroed.{zeroed_records};
 ghost use Rattle.book_questions.specs.Asked.{fields_number_of};
 ghost use Rattle.book_value.specs.Written.{WrittenAs};
 ghost use Rattle.book_image.specs.ImageBook.{image_book, image_user_of, CountsOf};
+ghost use Rattle.refusals.specs.Refusal.{number_in};
+
+use refusals::Refusal;
 
 // ---- the parts of an image, the same in every version
 
@@ -31,17 +34,6 @@ const SIZE: usize = 9512;
 
 // ---- parts filled up
 
-// Makes every byte of a part 0.
-fn clear(out: &mut [u8])
-    ensures { out.new ≡ replicate (length out.old) 0 }
-{
-    let mut i = 0;
-    while i < out.len() {
-        out[i] = 0;
-        i += 1;
-    }
-}
-
 // Copies bytes to the front of a part, and makes the rest of it 0.
 pub fn fill(out: &mut [u8], front: &[u8])
     requires { length front.now ≤ length out.old }
@@ -49,7 +41,7 @@ pub fn fill(out: &mut [u8], front: &[u8])
 {
     let n = front.len();
     out[..n].copy_from_slice(front);
-    clear(&mut out[n..]);
+    out[n..].fill(0);
 }
 
 // Fills the part of an image from one place to another.
@@ -75,10 +67,8 @@ fn copy_eights(s: &[u8], from: usize, out: &mut [u8], to: usize, k: usize)
     requires { (from + 8 * k ≤ length s.now) × (to + 8 * k ≤ length out.old) }
     ensures { out.new ≡ sets out.old to (take (8 * k) (drop from s.now)) }
 {
-    let mut i = 0;
-    while i < k {
+    for i in 0..k {
         fields::put_u64(out, to + 8 * i, fields::get_u64(s, from + 8 * i));
-        i += 1;
     }
 }
 
@@ -106,11 +96,9 @@ fn fit_each(
     requires { (from + size * n ≤ length s.now) × (to + new_size * n ≤ length out.old) }
     ensures { out.new ≡ sets out.old to (refitted new_size size n (drop from s.now)) }
 {
-    let kept = indices::lesser(size, new_size);
-    let mut i = 0;
-    while i < n {
+    let kept = size.min(new_size);
+    for i in 0..n {
         fit_record(s, from + size * i, kept, out, to + new_size * i, new_size);
-        i += 1;
     }
 }
 
@@ -143,7 +131,7 @@ fn fill_users(image: &mut [u8], s: &[u8], from: usize, n: usize, size: usize)
     ensures { image.new ≡ sets image.old image_users_at (padded (image_trades_at - image_users_at) (refitted image_user_size size n (drop from s.now))) }
 {
     fit_records(s, from, n, size, image, USERS_AT, USER_SIZE);
-    clear(&mut image[USERS_AT + USER_SIZE * n..TRADES_AT]);
+    image[USERS_AT + USER_SIZE * n..TRADES_AT].fill(0);
 }
 
 // Copies the bytes of a book of n users to an image.
@@ -159,20 +147,18 @@ fn copy_book(image: &mut [u8], s: &[u8], n: usize)
     fill_part(image, TRADES_AT, SIZE, &s[at..]);
 }
 
-// The number of the first of the questions 1 to 7 that the bytes of a book fail, and an image of 0; or 0 and the image of the book's
-// fields.
-pub fn read(book: &[u8], image: &mut [u8]) -> u32
+// Reads a book into the image of its fields; or refuses bytes with the first of the questions 1 to 7 that they fail, and the image is 0.
+pub fn read(book: &[u8], image: &mut [u8]) -> Result<(), Refusal>
     requires { length image.old ≡ image_size }
-    ensures { ImageRead book.now result image.new }
+    ensures { ImageRead book.now (number_in result) image.new }
 {
-    let number = book_questions::number(book);
-    if number != 0 {
-        clear(image);
-        return number;
+    if let Err(refusal) = book_questions::check(book) {
+        image.fill(0);
+        return Err(refusal);
     }
     let n = book_format::user_count(book) as usize;
     copy_book(image, book, n);
-    0
+    Ok(())
 }
 
 // ---- parts of a book copied
@@ -199,12 +185,8 @@ fn clear_fields(out: &mut [u8], n: usize, size: usize, offset: usize, width: usi
     requires { (offset + width ≤ size) × (length out.old ≡ size * n) }
     ensures { out.new ≡ zeroed_records width offset size n out.old }
 {
-    let mut i = 0;
-    let mut a = 0;
-    while i < n {
-        fields::put(out, a + offset, width, 0);
-        a += size;
-        i += 1;
+    for i in 0..n {
+        fields::put(out, size * i + offset, width, 0);
     }
 }
 
@@ -264,51 +246,49 @@ fn write_fields(image: &[u8], n: usize, m: usize, out: &mut [u8])
     copy_trades(image, TRADES_AT, m, out, at + size * n);
 }
 
-// The number of the first of the questions 4 to 7 that the bytes of the book of an image's fields fail, 0 where they fail none; they are
-// written to a part lent for it. Neither the mark of the image nor its zero bytes are looked at.
-fn ask_in(scratch: &mut [u8], image: &[u8], n: usize, m: usize, len: usize) -> u32
+// Asks the questions 4 to 7 of the bytes of the book of an image's fields, which are written to a part lent for it. Neither the mark of the
+// image nor its zero bytes are looked at.
+fn ask_in(scratch: &mut [u8], image: &[u8], n: usize, m: usize, len: usize) -> Result<(), Refusal>
     requires { CountsOf image.now n m × T (version_known (version_of image.now)) × (len ≡ length_by (version_of image.now) n m) × (len ≤ length scratch.old) }
-    ensures { result ≡ fields_number_of (bytes_of (image_book image.now)) }
+    ensures { number_in result ≡ fields_number_of (bytes_of (image_book image.now)) }
 {
     write_fields(image, n, m, &mut scratch[..len]);
     let mut sellers = [0u8; 256];
     let mut buyers = [0u8; 256];
-    book_questions::fields_number(&scratch[..len], &mut sellers, &mut buyers)
+    book_questions::check_fields(&scratch[..len], &mut sellers, &mut buyers)
 }
 
 // The same, with a place of its own to write to.
-fn ask_written(image: &[u8], n: usize, m: usize, len: usize) -> u32
+fn ask_written(image: &[u8], n: usize, m: usize, len: usize) -> Result<(), Refusal>
     requires { CountsOf image.now n m × T (version_known (version_of image.now)) × (len ≡ length_by (version_of image.now) n m) }
-    ensures { result ≡ fields_number_of (bytes_of (image_book image.now)) }
+    ensures { number_in result ≡ fields_number_of (bytes_of (image_book image.now)) }
 {
     let mut scratch = [0u8; SIZE];
     ask_in(&mut scratch, image, n, m, len)
 }
 
-// Writes the book that an image's fields are to a part of exactly its length, and answers 0; or leaves the part and answers the first
-// question that the bytes would fail.
-pub fn write(image: &[u8], out: &mut [u8]) -> u32
+// Writes the book that an image's fields are to a part of exactly its length; or leaves the part and refuses with the first question that
+// the bytes would fail. `book_value::write` does the same of a struct: a trait over both would have to state as laws what each writes, and
+// be longer than the two.
+pub fn write(image: &[u8], out: &mut [u8]) -> Result<(), Refusal>
     requires { length image.now ≡ image_size }
-    ensures { WrittenAs (count_of_users image.now) (count_of_trades image.now) (image_book image.now) out.old result out.new }
+    ensures { WrittenAs (count_of_users image.now) (count_of_trades image.now) (image_book image.now) out.old (number_in result) out.new }
 {
     let version = book_format::version(image);
     let n = book_format::user_count(image) as usize;
     let m = book_format::trade_count(image) as usize;
     if !book_format::is_known(version) {
-        return 2;
+        return Err(Refusal::UnknownVersion);
     }
     let counted = ((1 <= n) & (n <= 64)) & (m <= 256);
     if !counted {
-        return 3;
+        return Err(Refusal::WrongLength);
     }
     let len = book_format::book_length(version, n, m);
     if out.len() != len {
-        return 3;
+        return Err(Refusal::WrongLength);
     }
-    let asked = ask_written(image, n, m, len);
-    if asked != 0 {
-        return asked;
-    }
+    ask_written(image, n, m, len)?;
     write_fields(image, n, m, out);
-    0
+    Ok(())
 }

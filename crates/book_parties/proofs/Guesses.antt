@@ -1,9 +1,8 @@
--- Guesses: each is a place below n, before any is filled in and after one more is; and a right one is the place of its id. Assumes nothing.
-use Rattle.base.specs.Basics.{◌≡◌, sym, ap, ◌∙◌, Bool, true, List, ℕ, ◌<◌, ◌≤◌, arith, length, take, get_or, set, replicate, length-replicate}
-use Rattle.base.specs.Basics.{length-set, get_or-replicate, lt-ltb, ltb-true}
+-- Guesses: each is a place below n, before any is filled in and after one more is. Assumes nothing.
+use Rattle.base.specs.Basics.{◌≡◌, sym, ap, ◌∙◌, Bool, true, List, ℕ, ◌<◌, ◌≤◌, arith, length, get_or, set, replicate, length-replicate}
+use Rattle.base.specs.Basics.{length-set, get_or-replicate, ltb-true}
 use Rattle.base.proofs.Stores.{set_each}
-use Rattle.book_parties.specs.Ids.{FoundIn, Guesses, Padded}
-use Rattle.book_parties.proofs.Search.{stands_there}
+use Rattle.book_parties.specs.Ids.{FoundIn, Guesses}
 
 module _ {gs : List ℕ} {n : ℕ} where
   -- all are 0
@@ -21,11 +20,6 @@ module _ {gs : List ℕ} {n : ℕ} where
         full = length-set gs k v ∙ g.full;
         below = set_each (λ (j w : ℕ). j < 1024 → w < n) gs k v 0 (omega (arith, g.full)) (λ i. l) (λ j m i. g.below j i);
       }
-
--- a right one
-pub guess_found : (ids : List ℕ) (n id at : ℕ) → Padded ids n → at < n → get_or ids at 0 ≡ id → FoundIn (take n ids) n id at true
-guess_found ids n id at padded inside same =
-    record { stands = stands_there ids n id padded at inside same; told = sym (lt-ltb at n inside); within = omega (arith, inside) }
 
 -- an id that is known has a place below n
 pub found_below : {ids : List ℕ} {n id place : ℕ} {known : Bool} → FoundIn ids n id place known → known ≡ true → place < n

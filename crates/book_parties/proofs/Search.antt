@@ -1,8 +1,8 @@
 -- The search by halves of what is left, among ids that rise and are padded to 64 numbers: if the id stands at all, it is one of those left. Assumes nothing.
 use Rattle.base.specs.Basics.{◌≡◌, refl, sym, ap, ◌∙◌, Bool, true, false, cond, ◌&&◌, List, ℕ, ◌+◌, ◌-◌, ◌<◌, ◌≤◌, arith, T, eqb, ltb, eqb→eq, ltb→lt}
-use Rattle.base.specs.Basics.{length, take, get_or, get_or-replicate, length-take-le, get_or-take, get_or-drop, eqb-false, ltb-true, ltb-false}
+use Rattle.base.specs.Basics.{length, take, get_or, get_or-replicate, length-take-le, get_or-take, get_or-drop, eqb-false, lt-ltb, le-ltb, ltb-true, ltb-false}
 use Rattle.base.proofs.Tests.{and_l, and_r}
-use Rattle.book_parties.specs.Ids.{place_in, Padded}
+use Rattle.book_parties.specs.Ids.{place_in, FoundIn, Padded}
 use Rattle.book_parties.proofs.Rising.{place_in_at, place_in_none}
 
 -- if the id stands among the first n, it is one of the `count` from `low` on
@@ -81,23 +81,33 @@ module _ (ids : List ℕ) (n id : ℕ) (padded : Padded ids n) where
       (place_in_at (take n ids) id low (omega (arith, ids_held)) (get_or-take n ids low 0 inside ∙ same)
       (λ j k f. omega (arith, ids_rise_lem j low k inside, get_or-take n ids j 0 (omega arith))))
 
+  -- so it is found
+  pub found_there : (low : ℕ) → low < n → get_or ids low 0 ≡ id → FoundIn (take n ids) n id low true
+  found_there low inside same =
+      record { stands = stands_there low inside same; told = sym (lt-ltb low n inside); within = omega (arith, inside) }
+
   -- where the search ended
-  pub search_found : (low : ℕ) → (ltb low n && eqb (get_or ids low 0) id) ≡ true → (low ≡ place_in (take n ids) id) × (low ≤ n)
+  pub search_found : (low : ℕ) → (ltb low n && eqb (get_or ids low 0) id) ≡ true → FoundIn (take n ids) n id low true
   search_found low h =
       let test : T (ltb low n && eqb (get_or ids low 0) id) = rw h tt in
-      let inside = ltb→lt low n (and_l (ltb low n) (eqb (get_or ids low 0) id) test) in
-      let same = eqb→eq (get_or ids low 0) id (and_r (ltb low n) (eqb (get_or ids low 0) id) test) in
-      (stands_there low inside same, omega (arith, inside))
+      found_there low
+      (ltb→lt low n (and_l (ltb low n) (eqb (get_or ids low 0) id) test))
+      (eqb→eq (get_or ids low 0) id (and_r (ltb low n) (eqb (get_or ids low 0) id) test))
 
   -- it does not: it stands nowhere
-  pub search_none : {low count : ℕ} → Left ids n id low count → count ≤ 1 → (ltb low n && eqb (get_or ids low 0) id) ≡ false → n ≡ place_in (take n ids) id
+  pub search_none : {low count : ℕ} → Left ids n id low count → count ≤ 1 → (ltb low n && eqb (get_or ids low 0) id) ≡ false → FoundIn (take n ids) n id n false
   search_none {low} left over e =
-      omega (
-        arith,
-        ids_held,
-        place_in_none (take n ids) id
-            (λ j k f. go j (omega (arith, ids_held)) (omega (arith, get_or-take n ids j 0 (omega (arith, ids_held)))) (ltb low n) refl e),
-      )
+      record {
+        stands =
+            omega (
+              arith,
+              ids_held,
+              place_in_none (take n ids) id
+                  (λ j k f. go j (omega (arith, ids_held)) (omega (arith, get_or-take n ids j 0 (omega (arith, ids_held)))) (ltb low n) refl e),
+            );
+        told = sym (le-ltb n n (omega arith));
+        within = omega arith;
+      }
     where
       go : (j : ℕ) → j < n → get_or ids j 0 ≡ id → (b : Bool) → ltb low n ≡ b → (b && eqb (get_or ids low 0) id) ≡ false → ⊥
       go j k f true t h =

@@ -1,5 +1,5 @@
 -- The number that the answers to the questions 4 to 7 give, of users and trades and of bytes. Assumes nothing.
-use Rattle.base.specs.Basics.{◌≡◌, refl, sym, ap, subst, ◌∙◌, Bool, false, true, cond, ◌&&◌, some, List, ℕ, ◌+◌, ◌-◌, ◌≤◌, arith, T, eqb, drop}
+use Rattle.base.specs.Basics.{◌≡◌, refl, sym, ap, subst, ◌∙◌, Bool, false, true, cond, ◌&&◌, List, ℕ, ◌+◌, ◌-◌, ◌≤◌, arith, T, eqb, drop}
 use Rattle.base.specs.Basics.{length, length-drop, take, drop-drop, take_all}
 use Rattle.rules.specs.Areas.{Prices}
 use Rattle.rules.specs.Book.{User, Trade}

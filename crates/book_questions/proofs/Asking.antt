@@ -5,7 +5,6 @@ use mathlib.Core.Bool.{and-true}
 use Rattle.rules.specs.Book.{User, Trade}
 use Rattle.base.specs.Lists.{all}
 use Rattle.rules.specs.Questions.{guarantees_valid, user_is_valid, users_are_valid}
-use Rattle.rules.specs.Signed.{within}
 use Rattle.base.proofs.Tests.{and-false, and_l, and_r, by_case, holds}
 use Rattle.fields.specs.Field.{field}
 use Rattle.fields.proofs.Field.{field_part}
@@ -18,7 +17,7 @@ use Rattle.book_questions.specs.Asked.{UsersAsked, TradesAsked, leading, trade_a
 use Rattle.book_sums.specs.Sums.{places_of}
 use Rattle.book_sums.specs.Twelve.{added, Addable, Twelve}
 use Rattle.book_sums.proofs.Twelve.{twelve_none, addable_sold, addable_bought, twelve_next, twelve_all}
-use Rattle.book_sums.proofs.Walk.{record_at, record_first, record_next, user_at_lem, Passed, passed_start, passed_no, passed_turn, passed_end}
+use Rattle.book_sums.proofs.Walk.{record_at, user_at_lem, Passed, passed_start, passed_no, passed_turn, passed_end}
 use Rattle.fields.proofs.Sets.{rest_set}
 use Rattle.book_questions.proofs.Loops.{UsersLeft, users_start, users_id_no, users_no, users_turn, users_end, Listed, listed_start, listed_turn, listed_end, Led, led_start, led_no, led_turn, led_end}
 use Rattle.book_questions.proofs.Zeros.{ZerosLeft, role_no, role_yes, zeros_end, zeros_start, zeros_turn}
@@ -26,9 +25,8 @@ use Rattle.book_questions.proofs.Known.{valid_rising, trade_among_parties, trade
 
 -- ---- users
 
--- where i of n users were valid, of which the next stands at a: those left have the whole answer, and the ids of those passed are listed
-pub record UsersWalk (s : List ℕ) (size at n : ℕ) (ids : List ℕ) (last i a : ℕ) : Type 0 where
-  pub place : a ≡ at + size * i
+-- where i of n users were valid: those left have the whole answer, and the ids of those passed are listed
+pub record UsersWalk (s : List ℕ) (size at n : ℕ) (ids : List ℕ) (last i : ℕ) : Type 0 where
   pub within : i ≤ n
   pub left : UsersLeft (users_from size at n s) last i
   pub listed : Listed (λ u. u.party.id) (users_from size at n s) 64 ids i
@@ -52,10 +50,9 @@ users_length s size at n = length-records_of size user_of n (drop at s)
 
 module _ {s : List ℕ} {size at n : ℕ} where
   -- before the first
-  pub users_walk_start : {ids : List ℕ} → ids ≡ replicate 64 4294967295 → UsersWalk s size at n ids 0 0 at
+  pub users_walk_start : {ids : List ℕ} → ids ≡ replicate 64 4294967295 → UsersWalk s size at n ids 0 0
   users_walk_start e =
       record {
-        place = record_first size at;
         within = omega arith;
         left = users_start (users_from size at n s);
         listed = listed_start (ap length e ∙ length-replicate {A = ℕ} 64 4294967295);
@@ -63,13 +60,13 @@ module _ {s : List ℕ} {size at n : ℕ} where
         zeros = zeros_start;
       }
 
-  module _ {ids : List ℕ} {last i a : ℕ} (wide : 56 ≤ size) (walk : UsersWalk s size at n ids last i a) (h : i < n) {u : User} (e : u ≡ user_of (take (a + 56 - a) (drop a s))) where
+  module _ {ids : List ℕ} {last i a : ℕ} (wide : 56 ≤ size) (walk : UsersWalk s size at n ids last i) (h : i < n) (place : a ≡ at + size * i) {u : User} (e : u ≡ user_of (take (a + 56 - a) (drop a s))) where
     -- the next user is the one that was read
     user_inside : i < length (users_from size at n s)
     user_inside = rw (users_length s size at n) h
 
     user_read : u ≡ alone (get_or (users_from size at n s) i (user_of []))
-    user_read = user_at_lem size s at n i (user_of []) wide walk.place h e
+    user_read = user_at_lem size s at n i (user_of []) wide place h e
 
     -- whose id and fields are read
     abbrev next : User
@@ -116,27 +113,26 @@ module _ {s : List ℕ} {size at n : ℕ} where
           by_case (user_is_valid u)
           (λ v. answer_no
           (no_first (users_are_valid (users_from size at n s))
-          (sym (zeros_turn walk.zeros walk.place h (omega arith) (role_no a s is (ltb-false role 2 (sym (and-true (ltb role 2)) ∙ ap (λ (x : Bool). ltb role 2 && x) (sym v) ∙ k)) (valid_role v))).answer)))
+          (sym (zeros_turn walk.zeros place h (omega arith) (role_no a s is (ltb-false role 2 (sym (and-true (ltb role 2)) ∙ ap (λ (x : Bool). ltb role 2 && x) (sym v) ∙ k)) (valid_role v))).answer)))
           field_no
 
       -- its id is, and its fields are: its id is stored
-      pub users_walk_turn : n ≤ 64 → last < u.party.id → (ltb role 2 && user_is_valid u) ≡ true → UsersWalk s size at n (set ids i u.party.id) u.party.id (i + 1) (a + size)
+      pub users_walk_turn : n ≤ 64 → last < u.party.id → (ltb role 2 && user_is_valid u) ≡ true → UsersWalk s size at n (set ids i u.party.id) u.party.id (i + 1)
       users_walk_turn few k both =
           let small = ltb→lt role 2 (and_l (ltb role 2) (user_is_valid u) (holds both)) in
           let valid = second_true (ltb role 2) (user_is_valid u) both in
           record {
-            place = record_next size at i walk.place;
             within = omega arith;
             left =
                 subst (λ (id : ℕ). UsersLeft (users_from size at n s) id (i + 1)) (sym same_id)
                 (users_turn (users_from size at n s) (user_of []) walk.left user_inside refl (omega (arith, k, same_id)) (sym same_valid ∙ valid));
             listed = listed_turn (user_of []) walk.listed user_inside (omega arith) same_id;
             rest = rest_set 64 i 4294967295 u.party.id ids walk.rest;
-            zeros = zeros_turn walk.zeros walk.place h (omega arith) (role_yes a s is small);
+            zeros = zeros_turn walk.zeros place h (omega arith) (role_yes a s is small);
           }
 
   -- none is left
-  pub users_walk_end : {ids : List ℕ} {last i a : ℕ} → UsersWalk s size at n ids last i a → n ≤ i → n ≤ 64 → UsersAsked (users_from size at n s) (user_zeros_in size at n s && users_are_valid (users_from size at n s)) n true ids
+  pub users_walk_end : {ids : List ℕ} {last i : ℕ} → UsersWalk s size at n ids last i → n ≤ i → n ≤ 64 → UsersAsked (users_from size at n s) (user_zeros_in size at n s && users_are_valid (users_from size at n s)) n true ids
   unfolding ids_of
   users_walk_end {ids} {last} {i} walk h few =
       let over : i ≡ n = omega (arith, walk.within) in
@@ -156,10 +152,9 @@ module _ {s : List ℕ} {size at n : ℕ} where
 
 -- ---- trades
 
--- where i of m trades were valid between users of these ids, of which the next stands at a: those left have the whole answer and the rest of the number, and of those
+-- where i of m trades were valid between users of these ids: those left have the whole answer and the rest of the number, and of those
 -- passed the places of the parties are listed, what stands is summed at each, and their zero bytes are 0
-pub record TradesWalk (ids s : List ℕ) (at m : ℕ) (sellers buyers sums : List ℕ) (i a : ℕ) : Type 0 where
-  pub place : a ≡ at + 20 * i
+pub record TradesWalk (ids s : List ℕ) (at m : ℕ) (sellers buyers sums : List ℕ) (i : ℕ) : Type 0 where
   pub within : i ≤ m
   pub left : Passed (trade_among ids) (trades_from at m s) i
   pub counted : Led (trade_among ids) (trades_from at m s) i
@@ -175,11 +170,10 @@ trades-length s at m = length-records_of 20 trade_of m (drop at s)
 module _ {ids s : List ℕ} {at m : ℕ} where
   -- before the first
   pub trades_walk_start : {sellers buyers sums : List ℕ} → length sellers ≡ 256 → length buyers ≡ 256 → sums ≡ replicate 768 0
-      → TradesWalk ids s at m sellers buyers sums 0 at
+      → TradesWalk ids s at m sellers buyers sums 0
   trades_walk_start h k e =
       let ts = trades_from at m s in
       record {
-        place = omega arith;
         within = omega arith;
         left = passed_start;
         counted = led_start;
@@ -189,13 +183,13 @@ module _ {ids s : List ℕ} {at m : ℕ} where
         zeros = zeros_start;
       }
 
-  module _ {sellers buyers sums : List ℕ} {i a : ℕ} (walk : TradesWalk ids s at m sellers buyers sums i a) (h : i < m) {t : Trade} (e : t ≡ trade_of (take (a + 20 - a) (drop a s))) where
+  module _ {sellers buyers sums : List ℕ} {i a : ℕ} (walk : TradesWalk ids s at m sellers buyers sums i) (h : i < m) (place : a ≡ at + 20 * i) {t : Trade} (e : t ≡ trade_of (take (a + 20 - a) (drop a s))) where
     -- the next trade is the one that was read
     trade_inside : i < length (trades_from at m s)
     trade_inside = rw (trades-length s at m) h
 
     trade_read : t ≡ get_or (trades_from at m s) i (trade_of [])
-    trade_read = record_at 20 trade_of s at m i (trade_of []) walk.place h e
+    trade_read = record_at 20 trade_of s at m i (trade_of []) place h e
 
     -- it is not valid
     pub trades_walk_no : trade_among ids t ≡ false → TradesAsked ids (trades_from at m s) (trade_zeros_in at m s) false i sellers buyers sums
@@ -216,7 +210,7 @@ module _ {ids s : List ℕ} {at m : ℕ} where
           counted = c;
           answer =
               no_first (all (trade_among ids) (trades_from at m s))
-              (sym (zeros_turn walk.zeros walk.place h (omega arith) (ap (λ (x : ℕ). eqb x 0) (sym z) ∙ ne_eqb zero 0 k)).answer);
+              (sym (zeros_turn walk.zeros place h (omega arith) (ap (λ (x : ℕ). eqb x 0) (sym z) ∙ ne_eqb zero 0 k)).answer);
           placed = λ t. absurd t;
           twelve = λ t. absurd t;
           whole = λ t. absurd t;
@@ -239,10 +233,9 @@ module _ {ids s : List ℕ} {at m : ℕ} where
 
       -- the places of its parties are stored, and it is counted
       pub trades_walk_turn : {xs ys : List ℕ} {zero : ℕ} → xs ≡ added 0 p t sums → ys ≡ added 1 q t xs → zero ≡ field 1 (a + 11) s → zero ≡ 0
-          → TradesWalk ids s at m (set sellers i p) (set buyers i q) ys (i + 1) (a + 20)
+          → TradesWalk ids s at m (set sellers i p) (set buyers i q) ys (i + 1)
       trades_walk_turn {zero = zero} x y z o =
           record {
-            place = omega (arith, walk.place);
             within = omega arith;
             left = passed_turn (trade_of []) walk.left trade_inside (ap (trade_among ids) (sym trade_read) ∙ k);
             counted = led_turn (trade_of []) walk.counted trade_inside (ap (trade_among ids) (sym trade_read) ∙ k);
@@ -251,12 +244,12 @@ module _ {ids s : List ℕ} {at m : ℕ} where
             twelve =
                 rw (y, x)
                 (twelve_next ids (trades_from at m s) few (trade_of []) trade_inside trade_read (trade_among_parties ids t valid) (trade_among_day ids t valid) (trade_among_small ids t valid) f g walk.twelve);
-            zeros = zeros_turn walk.zeros walk.place h (omega arith) (ap (λ (k : ℕ). eqb k 0) (sym z) ∙ eq-eqb zero 0 o);
+            zeros = zeros_turn walk.zeros place h (omega arith) (ap (λ (k : ℕ). eqb k 0) (sym z) ∙ eq-eqb zero 0 o);
           }
 
   -- none is left
-  pub trades_walk_end : {sellers buyers sums : List ℕ} {i a : ℕ} → TradesWalk ids s at m sellers buyers sums i a → m ≤ i → m ≤ 256
-      → TradesAsked ids (trades_from at m s) (trade_zeros_in at m s) true i sellers buyers sums
+  pub trades_walk_end : {sellers buyers sums : List ℕ} {i : ℕ} → TradesWalk ids s at m sellers buyers sums i → m ≤ i → m ≤ 256
+      → TradesAsked ids (trades_from at m s) (trade_zeros_in at m s) true m sellers buyers sums
   trades_walk_end {sellers} {buyers} {sums} {i = i} walk h many =
       let ts = trades_from at m s in
       let full = trades-length s at m in
@@ -264,20 +257,20 @@ module _ {ids s : List ℕ} {at m : ℕ} where
       let past : length ts ≤ i = rw full h in
       let over : i ≡ length ts = rw full last in
       record {
-        counted = led_end walk.counted past;
+        counted = sym last ∙ led_end walk.counted past;
         answer = passed_end walk.left past ∙ ap (λ (x : Bool). x && all (trade_among ids) ts) (zeros_end walk.zeros h);
         placed = λ t us e. record {
           of_sellers = rw (← over, e) (listed_end walk.of_sellers past);
           of_buyers = rw (← over, e) (listed_end walk.of_buyers past);
         };
         twelve = λ t. twelve_all ids ts over (rw full many) walk.twelve;
-        whole = λ t. over;
+        whole = λ t. sym full;
       }
 
 -- ---- trades that are only counted
 
-module _ (ids s : List ℕ) (at m : ℕ) {i a : ℕ} (place : a ≡ at + 20 * i) (led : Led (trade_among ids) (trades_from at m s) i) where
-  module _ (h : i < m) {t : Trade} (e : t ≡ trade_of (take (a + 20 - a) (drop a s))) where
+module _ (ids s : List ℕ) (at m : ℕ) {i : ℕ} (led : Led (trade_among ids) (trades_from at m s) i) where
+  module _ {a : ℕ} (h : i < m) (place : a ≡ at + 20 * i) {t : Trade} (e : t ≡ trade_of (take (a + 20 - a) (drop a s))) where
     next_is : {answer : Bool} → trade_among ids t ≡ answer → trade_among ids (get_or (trades_from at m s) i (trade_of [])) ≡ answer
     next_is k = ap (trade_among ids) (sym (record_at 20 trade_of s at m i (trade_of []) place h e)) ∙ k
 
@@ -290,5 +283,5 @@ module _ (ids s : List ℕ) (at m : ℕ) {i a : ℕ} (place : a ≡ at + 20 * i)
     count_turn k = led_turn (trade_of []) led (rw (trades-length s at m) h) (next_is k)
 
   -- none is left
-  pub count_end : m ≤ i → i ≡ leading (trade_among ids) (trades_from at m s)
-  count_end h = led_end led (rw (trades-length s at m) h)
+  pub count_end : i ≡ m → m ≡ leading (trade_among ids) (trades_from at m s)
+  count_end h = sym h ∙ led_end led (rw (trades-length s at m) (omega arith))

@@ -1,5 +1,5 @@
 -- Users and trades by their ids: those of valid users rise, and a trade is valid between the ids where it is between the users. Assumes nothing.
-use Rattle.base.specs.Basics.{◌≡◌, refl, sym, ap, ap₂, ◌∙◌, Bool, true, false, ◌&&◌, List, [], ◌∷◌, ℕ, ◌≤◌, ◌<◌, arith, T, ltb, leb}
+use Rattle.base.specs.Basics.{◌≡◌, refl, sym, ap, ap₂, ◌∙◌, Bool, true, false, ◌&&◌, List, [], ◌∷◌, ℕ, ◌≤◌, ◌<◌, arith, T, ltb}
 use Rattle.base.specs.Basics.{ltb→lt, leb→le, length, take}
 use Rattle.base.specs.Lists.{all}
 use Rattle.rules.specs.Book.{User, Trade}

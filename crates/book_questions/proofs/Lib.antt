@@ -5,3 +5,4 @@ pub mod Asked
 pub mod Asking
 pub mod Managers
 pub mod Zeros
+pub mod Handed

@@ -1,6 +1,6 @@
 -- Laws of the loops that ask users and trades one by one: those left have the whole answer, and a list has what each one passed gave. Assumes nothing.
 use Rattle.base.proofs.Tests.{and-false}
-use Rattle.base.specs.Basics.{◌≡◌, refl, sym, ap, ap₂, ◌∙◌, Bool, true, false, cond, ◌&&◌, List, [], ◌∷◌, map, map-append, ℕ, ◌+◌, ◌-◌, ◌<◌, ◌≤◌}
+use Rattle.base.specs.Basics.{◌≡◌, refl, sym, ap, ap₂, ◌∙◌, Bool, true, false, cond, ◌&&◌, List, [], ◌∷◌, map, map-append, ℕ, ◌+◌, ◌<◌, ◌≤◌}
 use Rattle.base.specs.Basics.{add-one, arith, ltb, length, take, drop, get_or, set, length-set, drop_of_length-le, drop-cons}
 use Rattle.base.specs.Basics.{take_all, take-suc, take-suc-set, le-ltb, lt-ltb}
 use Rattle.base.specs.Lists.{all}

@@ -1,6 +1,6 @@
 -- Managers that are asked one by one: where they are read, and what the ids say of them. Assumes nothing.
-use Rattle.base.specs.Basics.{◌≡◌, refl, sym, ap, ap₂, ◌∙◌, Bool, true, false, not, ◌&&◌, ◌||◌, List, [], ◌∷◌, ℕ, zero, suc, ◌+◌, ◌*◌, ◌<◌, ◌≤◌}
-use Rattle.base.specs.Basics.{arith, T, eqb, ltb, length, take, drop, get_or, length-map, length-take, eq-eqb, ne_eqb}
+use Rattle.base.specs.Basics.{◌≡◌, refl, sym, ap, ap₂, ◌∙◌, Bool, true, false, not, ◌&&◌, List, [], ◌∷◌, ℕ, zero, suc, ◌+◌, ◌*◌, ◌<◌, ◌≤◌}
+use Rattle.base.specs.Basics.{arith, eqb, ltb, length, take, drop, get_or, length-map, length-take, eq-eqb, ne_eqb}
 use Rattle.base.specs.Lists.{all}
 use Rattle.fields.proofs.Field.{field_part}
 use Rattle.fields.proofs.Records.{get_or-records_of, length-records_of}

@@ -2,3 +2,4 @@
 pub mod Asked
 pub mod Zeros
 pub mod Opened
+pub mod Refused

@@ -1,9 +1,10 @@
-// The questions 1 to 7, asked of any bytes: the number of the first that is answered by no, and the places of the trades' parties where
-// there is none. One walk over the trades serves the questions 6 and 7, and tells for every user what was sold and bought in the three
+// The questions 1 to 7, asked of any bytes: the first that is answered by no refuses them; where there is none, the places of the trades'
+// parties are listed. One walk over the trades serves the questions 6 and 7, and tells for every user what was sold and bought in the three
 // areas, for d and for d+1.
 #![tactic(auto)]
 
-ghost use Rattle.std.specs.Prelude.{◌≡◌, ◌&&◌, ◌+◌, ◌*◌, ◌≤◌, ◌<◌, get_or, length, take, replicate};
+ghost use Rattle.std.specs.Prelude.{◌≡◌, ◌&&◌, ◌+◌, ◌*◌, ◌≤◌, ◌<◌, get_or, is_ok, length, take, replicate};
+ghost use Rattle.refusals.specs.Refusal.{number_in};
 ghost use Rattle.base.specs.Lists.{all};
 ghost use Rattle.rules.specs.Book.{nobody};
 ghost use Rattle.rules.specs.Questions.{managers_are_valid, users_are_valid};
@@ -14,13 +15,33 @@ ghost use Rattle.book_questions.specs.Asked.{manager_given, managers_given, Grou
 ghost use Rattle.book_questions.specs.Zeros.{user_zeros_in, trade_zeros_in};
 ghost use Rattle.book_questions.specs.Asked.{leading, trade_among, TradesAsked, RecordsIn, RecordsAsked};
 ghost use Rattle.book_questions.specs.Asked.{FieldsPlaced, AskedOf, Summed};
+ghost use Rattle.book_questions.specs.Refused.{number_asked, passed_of, read_of};
 
-// What was asked: the number of the first question that is answered by no, 0 where there is none, and how many trades were read: none
-// where a question before 6 is answered by no, else those before the first that is not valid, all of them where each is.
-#[derive(Clone, Copy)]
-pub struct Answer {
-    pub number: u32,
+use refusals::Refusal;
+
+// The refusal of a book, and how many of its trades were read: none where a question before 6 refuses, else those before the first that is
+// not valid, or all of them where each is. Of a book that no question refuses all were read.
+#[derive(Clone, Copy, Debug, PartialEq, Eq)]
+pub struct Refused {
+    pub refusal: Refusal,
     pub read: usize,
+}
+
+// A refusal before any trade was read.
+impl From<Refusal> for Refused {
+    ghost from_gives = { λ refusal r. r ≡ record { refusal = refusal; read = 0 } };
+
+    fn from(refusal: Refusal) -> Refused {
+        Refused { refusal, read: 0 }
+    }
+}
+
+impl From<Refused> for Refusal {
+    ghost from_gives = { λ r refusal. refusal ≡ r.refusal };
+
+    fn from(refused: Refused) -> Refusal {
+        refused.refusal
+    }
 }
 
 // ---- 5
@@ -32,9 +53,8 @@ fn fields_valid(s: &[u8], size: usize, n: usize, ids: &mut [u32]) -> bool
     ensures { UsersAsked (users_from size 0 n s.now) (user_zeros_in size 0 n s.now && users_are_valid (users_from size 0 n s.now)) n result ids.new }
 {
     let mut last = 0;
-    let mut i = 0;
-    let mut a = 0;
-    while i < n {
+    for i in 0..n {
+        let a = size * i;
         let u = book_records::read_user(&s[a..a + book_records::USER_SIZE]);
         if u.id <= last {
             return false;
@@ -45,8 +65,6 @@ fn fields_valid(s: &[u8], size: usize, n: usize, ids: &mut [u32]) -> bool
         }
         last = u.id;
         ids[i] = last;
-        a += size;
-        i += 1;
     }
     true
 }
@@ -70,11 +88,10 @@ fn manager_valid(
     if id == 0 {
         return true;
     }
-    let manager = book_parties::find(ids, guesses, n, id);
-    if !manager.known {
+    let Some(manager) = book_parties::find(ids, guesses, n, id) else {
         return false;
-    }
-    let there = book_records::MANAGED_SIZE * manager.place;
+    };
+    let there = book_records::MANAGED_SIZE * manager;
     let own = fields::get_u32(s, at);
     let role = fields::get_u8(s, at + book_records::ROLE);
     let manager_role = fields::get_u8(s, there + book_records::ROLE);
@@ -88,12 +105,10 @@ fn area_valid(s: &[u8], n: usize, ids: &[u32], guesses: &[u8; 1024], area: usize
     requires { GroupsIn s.now n ids.now guesses.now × (area < 3) }
     ensures { result ≡ all (manager_given (users_from 68 0 n s.now) area) (users_from 68 0 n s.now) }
 {
-    let mut i = 0;
-    while i < n {
+    for i in 0..n {
         if !manager_valid(s, n, ids, guesses, i, area) {
             return false;
         }
-        i += 1;
     }
     true
 }
@@ -114,15 +129,13 @@ fn groups_valid(s: &[u8], version: u16, n: usize, ids: &[u32], guesses: &[u8; 10
     requires { GroupsAsked s.now version n ids.now guesses.now }
     ensures { result ≡ all (managers_are_valid version (users_from (size_of_user version) 0 n s.now)) (users_from (size_of_user version) 0 n s.now) }
 {
-    if !book_format::has_managers(version) {
-        return true;
-    }
-    managers_valid(s, n, ids, guesses)
+    !book_format::has_managers(version) || managers_valid(s, n, ids, guesses)
 }
 
 // ---- 6
 
 // How many of the m trades from `at` on come before one that is not valid between users of the first n ids: m where all are valid.
+// A walk of its own, for speed: the walk of `valid_trades` then has one way to end at each trade.
 fn leading_trades(
     ids: &[u32],
     guesses: &[u8; 1024],
@@ -135,31 +148,21 @@ fn leading_trades(
     requires m_bound { (m ≤ 256) × (at + 20 * m ≤ length s.now) }
     ensures { result ≡ leading (trade_among (take n ids.now)) (trades_from at m s.now) }
 {
-    let mut i = 0;
-    let mut a = at;
-    while i < m {
+    for i in 0..m {
+        let a = at + book_records::TRADE_SIZE * i;
         let t = book_records::read_trade(&s[a..a + book_records::TRADE_SIZE]);
-        let seller_found = book_parties::find(ids, guesses, n, t.seller);
-        let buyer_found = book_parties::find(ids, guesses, n, t.buyer);
-        if !book_valid::trade_valid(seller_found.known, buyer_found.known, t) {
+        let seller = book_parties::find(ids, guesses, n, t.seller);
+        let buyer = book_parties::find(ids, guesses, n, t.buyer);
+        if !book_valid::trade_valid(seller.is_some(), buyer.is_some(), t) {
             return i;
         }
-        a += book_records::TRADE_SIZE;
-        i += 1;
     }
-    i
-}
-
-// What a walk over trades finds: whether each is valid and its zero byte 0, and how many come before one that is not valid.
-#[derive(Clone, Copy)]
-struct Walk {
-    valid: bool,
-    read: usize,
+    m
 }
 
 // Are the m trades from `at` on valid between users of the first n ids, and their zero bytes 0? Where it is so, the places of their parties
 // are listed, and what stands is summed at each. Whether a party is known is asked only where its guess was wrong; and the walk ends at a
-// zero byte that is not 0: how many trades come before one that is not valid is then counted apart.
+// zero byte that is not 0: how many trades come before one that is not valid, which is the error, is then counted apart.
 fn valid_trades(
     ids: &[u32],
     guesses: &[u8; 1024],
@@ -170,54 +173,34 @@ fn valid_trades(
     sellers: &mut [u8],
     buyers: &mut [u8],
     sums: &mut [u32; 768],
-) -> Walk
+) -> Result<(), usize>
     requires padded { Padded ids.now n × Guesses guesses.now n }
     requires m_bound { (m ≤ 256) × (at + 20 * m ≤ length s.now) × (length sellers.old ≡ 256) × (length buyers.old ≡ 256) × (sums.old ≡ replicate 768 0) }
-    ensures { TradesAsked (take n ids.now) (trades_from at m s.now) (trade_zeros_in at m s.now) result.valid result.read sellers.new buyers.new sums.new }
+    ensures { TradesAsked (take n ids.now) (trades_from at m s.now) (trade_zeros_in at m s.now) (is_ok result) (passed_of m result) sellers.new buyers.new sums.new }
 {
-    let mut i = 0;
-    let mut a = at;
-    while i < m {
+    for i in 0..m {
+        let a = at + book_records::TRADE_SIZE * i;
         let t = book_records::read_trade(&s[a..a + book_records::TRADE_SIZE]);
-        let seller = book_parties::find(ids, guesses, n, t.seller);
-        if !seller.known {
-            return Walk {
-                valid: false,
-                read: i,
-            };
-        }
-        let buyer = book_parties::find(ids, guesses, n, t.buyer);
-        if !buyer.known {
-            return Walk {
-                valid: false,
-                read: i,
-            };
-        }
+        let Some(seller) = book_parties::find(ids, guesses, n, t.seller) else {
+            return Err(i);
+        };
+        let Some(buyer) = book_parties::find(ids, guesses, n, t.buyer) else {
+            return Err(i);
+        };
         if !book_valid::trade_valid(true, true, t) {
-            return Walk {
-                valid: false,
-                read: i,
-            };
+            return Err(i);
         }
         let zero = fields::get_u8(s, a + 11);
         if zero != 0 {
             let read = leading_trades(ids, guesses, n, s, at, m);
-            return Walk {
-                valid: false,
-                read: read,
-            };
+            return Err(read);
         }
-        sellers[i] = seller.place as u8;
-        buyers[i] = buyer.place as u8;
-        book_sums::add_trade(sums, seller.place, 0, t);
-        book_sums::add_trade(sums, buyer.place, 1, t);
-        a += book_records::TRADE_SIZE;
-        i += 1;
+        sellers[i] = seller as u8;
+        buyers[i] = buyer as u8;
+        book_sums::add_trade(sums, seller, 0, t);
+        book_sums::add_trade(sums, buyer, 1, t);
     }
-    Walk {
-        valid: true,
-        read: i,
-    }
+    Ok(())
 }
 
 // ---- 5 to 7
@@ -235,55 +218,55 @@ fn ask_records(
     sellers: &mut [u8],
     buyers: &mut [u8],
     sums: &mut [u32; 768],
-) -> Answer
+) -> Result<usize, Refused>
     requires records_in { RecordsIn size 0 n trades_at m s.now × (size ≡ size_of_user version) }
     requires sellers_len { (length sellers.old ≡ 256) × (length buyers.old ≡ 256) × (sums.old ≡ replicate 768 0) }
-    ensures records_asked { RecordsAsked version (user_zeros_in size 0 n s.now) (trade_zeros_in trades_at m s.now) (users_from size 0 n s.now) (trades_from trades_at m s.now) result.number sellers.new buyers.new }
-    ensures summed { Summed (users_from size 0 n s.now) (trades_from trades_at m s.now) m result.number result.read sums.new }
+    ensures records_asked { RecordsAsked version (user_zeros_in size 0 n s.now) (trade_zeros_in trades_at m s.now) (users_from size 0 n s.now) (trades_from trades_at m s.now) (number_asked result) sellers.new buyers.new }
+    ensures summed { Summed (users_from size 0 n s.now) (trades_from trades_at m s.now) m (number_asked result) (read_of result) sums.new }
 {
     let mut ids = [0xffff_ffffu32; 64];
     if !fields_valid(s, size, n, &mut ids) {
-        return Answer { number: 5, read: 0 };
+        return Err(Refused::from(Refusal::InvalidUser));
     }
     let mut guesses = [0u8; 1024];
     book_parties::fill_guesses(&ids, n, &mut guesses);
     if !groups_valid(s, version, n, &ids, &guesses) {
-        return Answer { number: 5, read: 0 };
+        return Err(Refused::from(Refusal::InvalidUser));
     }
-    let walk = valid_trades(&ids, &guesses, n, s, trades_at, m, sellers, buyers, sums);
-    let read = walk.read;
-    if !walk.valid {
-        return Answer {
-            number: 6,
-            read: read,
-        };
+    if let Err(read) = valid_trades(&ids, &guesses, n, s, trades_at, m, sellers, buyers, sums) {
+        return Err(Refused {
+            refusal: Refusal::InvalidTrade,
+            read,
+        });
     }
     if !book_sums::positions_valid(s, 0, size, n, sums) {
-        return Answer {
-            number: 7,
-            read: read,
-        };
+        return Err(Refused {
+            refusal: Refusal::WrongPosition,
+            read: m,
+        });
     }
-    Answer {
-        number: 0,
-        read: read,
-    }
+    Ok(m)
 }
 
 // ---- all of them
 
-// Asks the questions 4 to 7 of bytes of the right form.
-pub fn ask_fields(s: &[u8], sellers: &mut [u8], buyers: &mut [u8], sums: &mut [u32; 768]) -> Answer
+// Asks the questions 4 to 7 of bytes of the right form, and gives the number of trades that were read.
+pub fn ask_fields(
+    s: &[u8],
+    sellers: &mut [u8],
+    buyers: &mut [u8],
+    sums: &mut [u32; 768],
+) -> Result<usize, Refused>
     requires { Formed s.now × (length sellers.old ≡ 256) × (length buyers.old ≡ 256) × (sums.old ≡ replicate 768 0) }
-    ensures fields_placed { FieldsPlaced s.now result.number sellers.new buyers.new }
-    ensures summed { Summed (users_of s.now) (trades_of s.now) (count_of_trades s.now) result.number result.read sums.new }
+    ensures fields_placed { FieldsPlaced s.now (number_asked result) sellers.new buyers.new }
+    ensures summed { Summed (users_of s.now) (trades_of s.now) (count_of_trades s.now) (number_asked result) (read_of result) sums.new }
 {
     let n = book_format::user_count(s) as usize;
     let m = book_format::trade_count(s) as usize;
     let prices = book_header::read_prices(s);
     let version = book_format::version(s);
     if !book_header::header_valid(version, fields::get_u32(s, book_records::DATE), prices) {
-        return Answer { number: 4, read: 0 };
+        return Err(Refused::from(Refusal::InvalidHeader));
     }
     let size = book_format::user_size(version);
     let users_at = book_format::users_offset(s);
@@ -301,40 +284,42 @@ pub fn ask_fields(s: &[u8], sellers: &mut [u8], buyers: &mut [u8], sums: &mut [u
     )
 }
 
-// Asks the questions 1 to 7 of any bytes: the number of the first that is answered by no, 0 where there is none, with the places of the
-// trades' parties; how many trades were read; and of bytes that pass the questions 1 to 6, whose trades were all read, the twelve sums of
-// every user.
-pub fn ask(s: &[u8], sellers: &mut [u8], buyers: &mut [u8], sums: &mut [u32; 768]) -> Answer
+// Asks the questions 1 to 7 of any bytes: the first that is answered by no refuses them; where there is none, the number of trades that
+// were read is given, and the places of their parties are listed; and of bytes that pass the questions 1 to 6, whose trades were all read,
+// the twelve sums of every user.
+pub fn ask(
+    s: &[u8],
+    sellers: &mut [u8],
+    buyers: &mut [u8],
+    sums: &mut [u32; 768],
+) -> Result<usize, Refused>
     requires { (length sellers.old ≡ 256) × (length buyers.old ≡ 256) × (sums.old ≡ replicate 768 0) }
-    ensures asked_of { AskedOf s.now result.number sellers.new buyers.new }
-    ensures summed { Summed (users_of s.now) (trades_of s.now) (count_of_trades s.now) result.number result.read sums.new }
+    ensures asked_of { AskedOf s.now (number_asked result) sellers.new buyers.new }
+    ensures summed { Summed (users_of s.now) (trades_of s.now) (count_of_trades s.now) (number_asked result) (read_of result) sums.new }
 {
-    let k = book_header::form_number(s);
-    if k != 0 {
-        return Answer { number: k, read: 0 };
-    }
+    book_header::ask_form(s)?;
     ask_fields(s, sellers, buyers, sums)
 }
 
 // ---- without the sums
 
-// The number of the first of the questions 4 to 7 that is answered by no, 0 where there is none, and the places of the trades' parties.
-pub fn fields_number(s: &[u8], sellers: &mut [u8], buyers: &mut [u8]) -> u32
+// Asks the questions 4 to 7 of bytes of the right form: where none refuses, the places of the trades' parties are listed.
+pub fn check_fields(s: &[u8], sellers: &mut [u8], buyers: &mut [u8]) -> Result<(), Refusal>
     requires { Formed s.now × (length sellers.old ≡ 256) × (length buyers.old ≡ 256) }
-    ensures { FieldsPlaced s.now result sellers.new buyers.new }
+    ensures { FieldsPlaced s.now (number_in result) sellers.new buyers.new }
 {
     let mut sums = [0u32; 768];
-    let answer = ask_fields(s, sellers, buyers, &mut sums);
-    answer.number
+    ask_fields(s, sellers, buyers, &mut sums)?;
+    Ok(())
 }
 
-// The number of the first of the questions 1 to 7 that any bytes fail, 0 where they fail none.
-pub fn number(s: &[u8]) -> u32
-    ensures { result ≡ book_number s.now }
+// Asks the questions 1 to 7 of any bytes.
+pub fn check(s: &[u8]) -> Result<(), Refusal>
+    ensures { number_in result ≡ book_number s.now }
 {
     let mut sellers = [0u8; 256];
     let mut buyers = [0u8; 256];
     let mut sums = [0u32; 768];
-    let answer = ask(s, &mut sellers, &mut buyers, &mut sums);
-    answer.number
+    ask(s, &mut sellers, &mut buyers, &mut sums)?;
+    Ok(())
 }

@@ -106,10 +106,11 @@ fn get_amounts(s: &[u8], at: usize) -> [Net; 3]
     requires { at + 12 ≤ length s.now }
     ensures { as_amounts result ≡ amounts_at at s.now }
 {
-    let pvb = Net::of_bits(fields::get_u32(s, at));
-    let tvb = Net::of_bits(fields::get_u32(s, at + 4));
-    let avb = Net::of_bits(fields::get_u32(s, at + 8));
-    [pvb, tvb, avb]
+    [
+        Net::of_bits(fields::get_u32(s, at)),
+        Net::of_bits(fields::get_u32(s, at + 4)),
+        Net::of_bits(fields::get_u32(s, at + 8)),
+    ]
 }
 
 // Writes the signed amounts of the three areas to the 12 bytes from `at`.
@@ -117,13 +118,9 @@ fn put_amounts(s: &mut [u8], at: usize, v: [Net; 3])
     requires { at + 12 ≤ length s.old }
     ensures { s.new ≡ set_fields amount_widths at (amount_values (as_amounts v)) s.old }
 {
-    let pvb = v[0];
-    let tvb = v[1];
-    let avb = v[2];
-    let next = at + 4;
-    fields::put_u32(s, at, pvb.bits());
-    fields::put_u32(s, next, tvb.bits());
-    fields::put_u32(s, next + 4, avb.bits());
+    fields::put_u32(s, at, v[0].bits());
+    fields::put_u32(s, at + 4, v[1].bits());
+    fields::put_u32(s, at + 8, v[2].bits());
 }
 
 // The user that 56 bytes hold.
@@ -131,15 +128,12 @@ pub fn read_user(c: &[u8]) -> User
     requires { length c.now ≡ 56 }
     ensures { as_user result ≡ user_of c.now }
 {
-    let physical = get_amounts(c, PHYSICAL);
-    let position = get_amounts(c, POSITION);
-    let charges = Balance::of_bits(fields::get_u64(c, CHARGES));
     User {
         id: fields::get_u32(c, 0),
         role: fields::get_u8(c, ROLE),
-        physical: physical,
-        position: position,
-        charges: charges,
+        physical: get_amounts(c, PHYSICAL),
+        position: get_amounts(c, POSITION),
+        charges: Balance::of_bits(fields::get_u64(c, CHARGES)),
         assigned: Cents(fields::get_u64(c, ASSIGNED)),
         blocked: Cents(fields::get_u64(c, BLOCKED)),
     }
@@ -150,29 +144,25 @@ pub fn write_user(c: &mut [u8], u: User)
     requires { length c.old ≡ 56 }
     ensures { c.new ≡ user_bytes (as_user u) }
 {
-    let physical = u.physical;
-    let position = u.position;
-    let charges = u.charges;
     fields::put_u32(c, 0, u.id);
     fields::put_u8(c, ROLE, u.role);
     fields::put(c, USER_ZEROS, 3, 0);
-    put_amounts(c, PHYSICAL, physical);
-    put_amounts(c, POSITION, position);
-    fields::put_u64(c, CHARGES, charges.bits());
+    put_amounts(c, PHYSICAL, u.physical);
+    put_amounts(c, POSITION, u.position);
+    fields::put_u64(c, CHARGES, u.charges.bits());
     fields::put_u64(c, ASSIGNED, u.assigned.0);
     fields::put_u64(c, BLOCKED, u.blocked.0);
 }
 
-// The user whose every field is 0.
+// The user whose every field is 0. No derived default: an amount of 0 is kept as its offset. `no_trade` stands beside it in the same form.
 pub fn no_user() -> User
     ensures { result ≡ blank_user }
 {
-    let none = [Net::ZERO; 3];
     User {
         id: 0,
         role: 0,
-        physical: none,
-        position: none,
+        physical: [Net::ZERO; 3],
+        position: [Net::ZERO; 3],
         charges: Balance::ZERO,
         assigned: Cents(0),
         blocked: Cents(0),

@@ -21,8 +21,7 @@ pub fn add_trade(sums: &mut [u32; 768], place: usize, side: usize, t: Trade)
     ensures { sums.new ≡ added side place (as_trade t) sums.old }
 {
     let k = 12 * place + 6 * side + 3 * (t.day as usize) + t.area as usize;
-    let x = sums[k];
-    sums[k] = x + t.standing.0;
+    sums[k] += t.standing.0;
 }
 
 // ---- the positions
@@ -31,9 +30,7 @@ pub fn add_trade(sums: &mut [u32; 768], place: usize, side: usize, t: Trade)
 fn is_position(position: Net, physical: Net, sold: u32, bought: u32) -> bool
     ensures { result ≡ position_as (net position) (net physical) bought sold }
 {
-    let x = position.0;
-    let h = physical.0;
-    x as u64 + sold as u64 == h as u64 + bought as u64
+    position.0 as u64 + sold as u64 == physical.0 as u64 + bought as u64
 }
 
 // Are the three positions of the user at place i as the sums have them?
@@ -41,12 +38,10 @@ fn user_positions_valid(u: User, sums: &[u32; 768], i: usize) -> bool
     requires { i < 64 }
     ensures { result ≡ positions_from (as_user u) sums.now i }
 {
-    let position = u.position;
-    let physical = u.physical;
     let k = 12 * i;
-    let pvb = is_position(position[0], physical[0], sums[k], sums[k + 6]);
-    let tvb = is_position(position[1], physical[1], sums[k + 1], sums[k + 7]);
-    let avb = is_position(position[2], physical[2], sums[k + 2], sums[k + 8]);
+    let pvb = is_position(u.position[0], u.physical[0], sums[k], sums[k + 6]);
+    let tvb = is_position(u.position[1], u.physical[1], sums[k + 1], sums[k + 7]);
+    let avb = is_position(u.position[2], u.physical[2], sums[k + 2], sums[k + 8]);
     pvb & (tvb & avb)
 }
 
@@ -56,15 +51,14 @@ pub fn positions_valid(s: &[u8], at: usize, size: usize, n: usize, sums: &[u32; 
     requires { (n ≤ 64) × (56 ≤ size) × (at + size * n ≤ length s.now) }
     ensures { PositionsAsked (users_from size at n s.now) sums.now result }
 {
-    let mut i = 0;
+    // `a` is where the user at hand begins, as the walks of `book_tables` have it.
     let mut a = at;
-    while i < n {
+    for i in 0..n {
         let u = book_records::read_user(&s[a..a + book_records::USER_SIZE]);
         if !user_positions_valid(u, sums, i) {
             return false;
         }
         a += size;
-        i += 1;
     }
     true
 }

@@ -19,7 +19,7 @@ use units::Prices;
 // ---- users and trades
 
 // The ids of a user's managers, one per area, 0 for none.
-#[derive(Clone, Copy)]
+#[derive(Clone, Copy, Default)]
 pub struct Managers {
     pub pvb: u32,
     pub tvb: u32,
@@ -39,16 +39,13 @@ fn read_managers(c: &[u8], managed: bool) -> Managers
     ensures { as_managers result ≡ managers_at 56 c.now }
 {
     if managed {
-        return Managers {
+        Managers {
             pvb: fields::get_u32(c, book_records::MANAGERS),
             tvb: fields::get_u32(c, book_records::MANAGER_TVB),
             avb: fields::get_u32(c, book_records::MANAGER_AVB),
-        };
-    }
-    Managers {
-        pvb: 0,
-        tvb: 0,
-        avb: 0,
+        }
+    } else {
+        Managers::default()
     }
 }
 
@@ -57,11 +54,9 @@ fn read_record(c: &[u8], managed: bool) -> Record
     requires { length c.now ≡ record_size managed }
     ensures { as_record result ≡ user_of c.now }
 {
-    let user = book_records::read_user(&c[..book_records::USER_SIZE]);
-    let managers = read_managers(c, managed);
     Record {
-        user: user,
-        managers: managers,
+        user: book_records::read_user(&c[..book_records::USER_SIZE]),
+        managers: read_managers(c, managed),
     }
 }
 
@@ -70,9 +65,8 @@ fn write_record(c: &mut [u8], r: Record, managed: bool)
     requires { length c.old ≡ record_size managed }
     ensures { c.new ≡ record_bytes managed (as_record r) }
 {
-    let user = r.user;
     let managers = r.managers;
-    book_records::write_user(&mut c[..book_records::USER_SIZE], user);
+    book_records::write_user(&mut c[..book_records::USER_SIZE], r.user);
     if managed {
         fields::put_u32(c, book_records::MANAGERS, managers.pvb);
         fields::put_u32(c, book_records::MANAGER_TVB, managers.tvb);
@@ -84,17 +78,14 @@ fn write_record(c: &mut [u8], r: Record, managed: bool)
 fn no_record() -> Record
     ensures { result ≡ blank_record }
 {
-    let user = book_records::no_user();
-    let managers = Managers {
-        pvb: 0,
-        tvb: 0,
-        avb: 0,
-    };
     Record {
-        user: user,
-        managers: managers,
+        user: book_records::no_user(),
+        managers: Managers::default(),
     }
 }
+
+// Users and trades have a function each, here and where they are written: what a user's record asks for (its size, and whether it has
+// managers) a trade's does not.
 
 // The n users that stand from `at` in records of a size, and blank ones past them.
 pub fn read_users(s: &[u8], at: usize, size: usize, n: usize) -> [Record; 64]
@@ -104,12 +95,11 @@ pub fn read_users(s: &[u8], at: usize, size: usize, n: usize) -> [Record; 64]
     let blank = no_record();
     let mut users = [blank; 64];
     let managed = size == book_records::MANAGED_SIZE;
-    let mut i = 0;
+    // Here and below `a` is where the next record begins: pieces by `chunks_exact` would be a second place that knows the size.
     let mut a = at;
-    while i < n {
+    for i in 0..n {
         users[i] = read_record(&s[a..a + size], managed);
         a += size;
-        i += 1;
     }
     users
 }
@@ -121,12 +111,10 @@ pub fn read_trades(s: &[u8], at: usize, n: usize) -> [Trade; 256]
 {
     let blank = book_records::no_trade();
     let mut trades = [blank; 256];
-    let mut i = 0;
     let mut a = at;
-    while i < n {
+    for i in 0..n {
         trades[i] = book_records::read_trade(&s[a..a + book_records::TRADE_SIZE]);
         a += book_records::TRADE_SIZE;
-        i += 1;
     }
     trades
 }
@@ -137,13 +125,10 @@ pub fn write_users(out: &mut [u8], at: usize, size: usize, users: [Record; 64], 
     ensures { (out.new ≡ sets out.old at (bytes_of_records (λ u. record_bytes (eqb size 68) (as_record u)) (take n users))) × (length users ≡ 64) }
 {
     let managed = size == book_records::MANAGED_SIZE;
-    let mut i = 0;
     let mut a = at;
-    while i < n {
-        let u = users[i];
-        write_record(&mut out[a..a + size], u, managed);
+    for i in 0..n {
+        write_record(&mut out[a..a + size], users[i], managed);
         a += size;
-        i += 1;
     }
 }
 
@@ -152,13 +137,10 @@ pub fn write_trades(out: &mut [u8], at: usize, trades: [Trade; 256], n: usize)
     requires { (n ≤ 256) × (at + 20 * n ≤ length out.old) }
     ensures { (out.new ≡ sets out.old at (bytes_of_records (λ t. trade_bytes (as_trade t)) (take n trades))) × (length trades ≡ 256) }
 {
-    let mut i = 0;
     let mut a = at;
-    while i < n {
-        let t = trades[i];
-        book_records::write_trade(&mut out[a..a + book_records::TRADE_SIZE], t);
+    for i in 0..n {
+        book_records::write_trade(&mut out[a..a + book_records::TRADE_SIZE], trades[i]);
         a += book_records::TRADE_SIZE;
-        i += 1;
     }
 }
 
@@ -185,7 +167,6 @@ pub fn read_book(s: &[u8]) -> Book
 {
     let user_count = book_format::user_count(s);
     let trade_count = book_format::trade_count(s);
-    let prices = book_header::read_prices(s);
     let n = user_count as usize;
     let users = read_users(
         s,
@@ -196,12 +177,12 @@ pub fn read_book(s: &[u8]) -> Book
     let trades = read_trades(s, book_format::trades_offset(s, n), trade_count as usize);
     Book {
         version: book_format::version(s),
-        user_count: user_count,
-        trade_count: trade_count,
+        user_count,
+        trade_count,
         date: fields::get_u32(s, book_records::DATE),
-        prices: prices,
-        users: users,
-        trades: trades,
+        prices: book_header::read_prices(s),
+        users,
+        trades,
     }
 }
 
@@ -209,27 +190,14 @@ pub fn read_book(s: &[u8]) -> Book
 pub fn no_book() -> Book
     ensures { result ≡ blank_book }
 {
-    let user = no_record();
-    let trade = book_records::no_trade();
-    let prices = Prices {
-        p: 0,
-        q: 0,
-        l: 0,
-        x: 0,
-        i: 0,
-        s: 0,
-        u: 0,
-    };
-    let users = [user; 64];
-    let trades = [trade; 256];
     Book {
         version: 0,
         user_count: 0,
         trade_count: 0,
         date: 0,
-        prices: prices,
-        users: users,
-        trades: trades,
+        prices: Prices::default(),
+        users: [no_record(); 64],
+        trades: [book_records::no_trade(); 256],
     }
 }
 
@@ -240,14 +208,11 @@ pub fn write_book(out: &mut [u8], b: Book)
 {
     let n = b.user_count as usize;
     let m = b.trade_count as usize;
-    let prices = b.prices;
-    let users = b.users;
-    let trades = b.trades;
     let at = book_format::header_size(b.version);
     let size = book_format::user_size(b.version);
     book_header::write_start(out, b.version, b.user_count, b.trade_count, b.date);
-    book_header::write_prices(out, prices);
-    book_header::write_selling(out, b.version, prices);
-    write_users(out, at, size, users, n);
-    write_trades(out, at + size * n, trades, m);
+    book_header::write_prices(out, b.prices);
+    book_header::write_selling(out, b.version, b.prices);
+    write_users(out, at, size, b.users, n);
+    write_trades(out, at + size * n, b.trades, m);
 }

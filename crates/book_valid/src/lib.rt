@@ -9,19 +9,17 @@ ghost use Rattle.book_valid.specs.Given.{trade_is_valid_given};
 
 use book_records::{Trade, User};
 
+// Both functions join their tests by `&` and compare plain numbers: so the tests of a record are compiled together, without a branch for
+// each (docs/PROVING-NOTES.md).
+
 // Is every field of a user valid, its position apart? (That ids rise is asked of the users together.)
 pub fn user_valid(u: User) -> bool
     ensures { result ≡ user_is_valid (as_user u) }
 {
-    let physical = u.physical;
-    let pvb = physical[0];
-    let tvb = physical[1];
-    let avb = physical[2];
-    let charges = u.charges;
-    let pvb_valid = pvb.is_entry();
-    let tvb_valid = tvb.is_entry();
-    let avb_valid = avb.is_entry();
-    let charges_valid = charges.is_charges();
+    let pvb_valid = u.physical[0].is_entry();
+    let tvb_valid = u.physical[1].is_entry();
+    let avb_valid = u.physical[2].is_entry();
+    let charges_valid = u.charges.is_charges();
     (u.role < 2)
         & ((pvb_valid & (tvb_valid & avb_valid))
             & (charges_valid & ((u.blocked.0 <= u.assigned.0) & (u.assigned.0 <= 1000000000000))))

@@ -25,12 +25,12 @@ pub returns-then-has_managers : goal.returns-then-has_managers
 unfolding user_fields size_of_user record_size user_widths manager_widths amount_widths
 returns-then-has_managers c = rw (managed (goal.at.returns-then-has_managers c).Then-has_managers) c.arrange.ensures
 
-pub arrange-requires-2 : goal.arrange-requires-2
+pub arrange-requires-else-has_managers : goal.arrange-requires-else-has_managers
 unfolding size
-arrange-requires-2 c = let a = c.args in
-    let u : size_of_user a.version * a.n ≡ 56 * a.n = ap (λ (k : ℕ). k * a.n) (user_plain a.version (plain (goal.at.arrange-requires-2 c).Else-has_managers)) in
+arrange-requires-else-has_managers c = let a = c.args in
+    let u : size_of_user a.version * a.n ≡ 56 * a.n = ap (λ (k : ℕ). k * a.n) (user_plain a.version (plain (goal.at.arrange-requires-else-has_managers c).Else-has_managers)) in
     record { narrow = search rules; fields = refl; source = search rules; target = search rules }
 
-pub returns : goal.returns
+pub returns-else-has_managers : goal.returns-else-has_managers
 unfolding user_fields size_of_user record_size user_widths amount_widths
-returns c = rw (plain (goal.at.returns c).Else-has_managers) c.arrange-2.ensures
+returns-else-has_managers c = rw (plain (goal.at.returns-else-has_managers c).Else-has_managers) c.arrange-else-has_managers.ensures

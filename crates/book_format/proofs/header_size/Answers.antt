@@ -6,5 +6,5 @@ use Rattle.book_format.proofs.header_size.Goals as goal
 pub returns-then-has_selling : goal.returns-then-has_selling
 returns-then-has_selling c = record { value = sym (header_selling _ (sym c.has_selling.ensures ∙ c.if-has_selling.true)); lower_bound = omega arith }
 
-pub returns : goal.returns
-returns c = record { value = sym (header_plain _ (sym c.has_selling.ensures ∙ c.if-has_selling.false)); lower_bound = omega arith }
+pub returns-else-has_selling : goal.returns-else-has_selling
+returns-else-has_selling c = record { value = sym (header_plain _ (sym c.has_selling.ensures ∙ c.if-has_selling.false)); lower_bound = omega arith }

@@ -6,5 +6,5 @@ use Rattle.book_format.proofs.user_size.Goals as goal
 pub returns-then-has_managers : goal.returns-then-has_managers
 returns-then-has_managers c = record { value = sym (user_managed _ (sym c.has_managers.ensures ∙ c.if-has_managers.true)); lower_bound = omega arith }
 
-pub returns : goal.returns
-returns c = record { value = sym (user_plain _ (sym c.has_managers.ensures ∙ c.if-has_managers.false)); lower_bound = omega arith }
+pub returns-else-has_managers : goal.returns-else-has_managers
+returns-else-has_managers c = record { value = sym (user_plain _ (sym c.has_managers.ensures ∙ c.if-has_managers.false)); lower_bound = omega arith }

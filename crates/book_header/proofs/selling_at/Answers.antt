@@ -21,6 +21,6 @@ pub returns-then-has_selling : goal.returns-then-has_selling
 unfolding selling_tariff_at
 returns-then-has_selling c = rw (sym (asked (goal.at.returns-then-has_selling c).After-has_selling) ∙ c.if-has_selling.true) c.get_u32.ensures
 
-pub returns : goal.returns
+pub returns-else-has_selling : goal.returns-else-has_selling
 unfolding selling_tariff_at
-returns c = rw (sym (asked (goal.at.returns c).After-has_selling) ∙ c.if-has_selling.false)
+returns-else-has_selling c = rw (sym (asked (goal.at.returns-else-has_selling c).After-has_selling) ∙ c.if-has_selling.false)

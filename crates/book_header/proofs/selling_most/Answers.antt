@@ -7,6 +7,6 @@ pub returns-then-has_selling : goal.returns-then-has_selling
 unfolding most_selling
 returns-then-has_selling c = rw (sym c.has_selling.ensures ∙ c.if-has_selling.true)
 
-pub returns : goal.returns
+pub returns-else-has_selling : goal.returns-else-has_selling
 unfolding most_selling
-returns c = rw (sym c.has_selling.ensures ∙ c.if-has_selling.false)
+returns-else-has_selling c = rw (sym c.has_selling.ensures ∙ c.if-has_selling.false)

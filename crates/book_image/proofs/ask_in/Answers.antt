@@ -21,11 +21,11 @@ written c = let a = c.args in
     let e = c.write_fields.ensures in
     take_at c.write_fields.new.out (drop a.len a.scratch.now) a.len (ap length e ∙ long (goal.at.After-write_fields c).After-write_fields) ∙ e
 
-pub fields_number-requires : goal.fields_number-requires
-fields_number-requires c = (rw (written (goal.at.fields_number-requires c).After-write_fields) (image_formed c.requires.0 (λ i. (c.type_inv.image i).fits) c.requires.1), search rules, search rules)
+pub check_fields-requires : goal.check_fields-requires
+check_fields-requires c = (rw (written (goal.at.check_fields-requires c).After-write_fields) (image_formed c.requires.0 (λ i. (c.type_inv.image i).fits) c.requires.1), search rules, search rules)
 
 pub returns : goal.returns
-returns c = c.fields_number.ensures.asked ∙ ap fields_number_of (written (goal.at.returns c).After-write_fields)
+returns c = c.check_fields.ensures.asked ∙ ap fields_number_of (written (goal.at.returns c).After-write_fields)
 
 pub slice_bounds-write_fields-end-2 : goal.slice_bounds-write_fields-end-2
 slice_bounds-write_fields-end-2 c = rw length-take (omega (arith, c.requires.3))
@@ -33,5 +33,5 @@ slice_bounds-write_fields-end-2 c = rw length-take (omega (arith, c.requires.3))
 pub write_fields-requires : goal.write_fields-requires
 write_fields-requires c = (c.requires.0, rw length-take (omega (arith, c.requires.2, c.requires.3)))
 
-pub slice_bounds-fields_number-end-2 : goal.slice_bounds-fields_number-end-2
-slice_bounds-fields_number-end-2 c = sym (ap length (written (goal.at.slice_bounds-fields_number-end-2 c).After-write_fields) ∙ long (goal.at.slice_bounds-fields_number-end-2 c).After-write_fields)
+pub slice_bounds-check_fields-end-2 : goal.slice_bounds-check_fields-end-2
+slice_bounds-check_fields-end-2 c = sym (ap length (written (goal.at.slice_bounds-check_fields-end-2 c).After-write_fields) ∙ long (goal.at.slice_bounds-check_fields-end-2 c).After-write_fields)

@@ -1,5 +1,5 @@
 -- `copy_records` copies the records over the whole part, and makes the field 0 in each of them there. Assumes nothing.
-use Rattle.base.specs.Basics.{ap, sym, ◌∙◌}
+use Rattle.base.specs.Basics.{ap, ◌∙◌}
 use Rattle.book_image.specs.Zeroed.{zeroed_records}
 use Rattle.book_image.proofs.copy_records.Goals as goal
 

@@ -8,4 +8,4 @@ use Rattle.book_image.proofs.fill_users.Goals as goal
 pub returns : goal.returns
 returns c = let a = c.args in
     let d = drop a.from a.s.now in
-    users_filled a.image.now (refitted 68 a.size a.n d) a.n c.requires.2 c.requires.0 (length-refitted 68 a.size a.n d) c.fit_records.ensures c.clear.ensures
+    users_filled a.image.now (refitted 68 a.size a.n d) a.n c.requires.2 c.requires.0 (length-refitted 68 a.size a.n d) c.fit_records.ensures (c.fill.ensures.after (λ y e. e))

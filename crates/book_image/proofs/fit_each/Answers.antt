@@ -16,7 +16,7 @@ to-lies : (c : goal.In-loop-i)
 to-lies c = omega (arith, c.requires.1, c.loop-i.invariant.same, mul-suc c.args.new_size c.loop-i.i, mul-le-mul_left c.args.new_size c.loop-i-test.true)
 
 pub loop-i-preserved : goal.loop-i-preserved
-loop-i-preserved c = fitting_turn c.lesser-kept.ensures c.requires.0 c.loop-i.invariant c.loop-i-test.true c.fit_record.ensures
+loop-i-preserved c = fitting_turn c.min-kept.ensures c.requires.0 c.loop-i.invariant c.loop-i-test.true c.fit_record.ensures
 
 pub loop-i-init : goal.loop-i-init
 loop-i-init c = fitting_start

@@ -1,6 +1,7 @@
 -- `write` asks the version, the counts and the part's length, then the fields of the image, and writes only where all are answered by yes. Assumes nothing.
-use Rattle.base.specs.Basics.{◌≡◌, sym, ap, ap₂, ◌∙◌, Bool, true, false, ◌&&◌, ℕ, eqb, length, eq-eqb, ne_eqb, not-true, not-false}
+use Rattle.base.specs.Basics.{◌≡◌, sym, ap, ap₂, ◌∙◌, Bool, true, false, ◌&&◌, ℕ, eqb, length, eq-eqb, ne_eqb}
 use Rattle.base.proofs.Tests.{holds}
+use Rattle.refusals.proofs.Numbers.{handed_on, refused-nonzero}
 use Rattle.rules.specs.Questions.{version_known}
 use Rattle.book_format.specs.Book.{count_of_users, count_of_trades, book_of, length_by}
 use Rattle.book_value.specs.Written.{counts_in_range}
@@ -33,12 +34,12 @@ sizes {answer} c e = rw (← c.version-version.ensures, ← c.user_count-n.ensur
 counted : (c : goal.Else-not-counted)
     → counts_in_range c.user_count-n.result c.trade_count-m.result ≡ true
 unfolding counts_in_range
-counted c = not-false _ c.if-not-counted.false-raw
+counted c = c.if-not-counted.false
 
 uncounted : (c : goal.Then-not-counted)
     → counts_in_range c.user_count-n.result c.trade_count-m.result ≡ false
 unfolding counts_in_range
-uncounted c = not-true _ c.if-not-counted.true-raw
+uncounted c = c.if-not-counted.true
 
 counts : (c : goal.Else-not-counted)
     → CountsOf c.args.image.now c.user_count-n.result c.trade_count-m.result
@@ -71,16 +72,17 @@ returns-then-out-len c = let a = c.args in
     (sizes (goal.at.returns-then-out-len c).After-is_known (ap₂ (λ (x y : Bool). x && y) (counted (goal.at.returns-then-out-len c).Else-not-counted)
     (ne_eqb (length a.out.now) _ (λ e. c.if-out-len.true (e ∙ sym c.book_length-len.ensures)))))
 
-pub ask_written-asked-requires : goal.ask_written-asked-requires
+pub ask_written-requires : goal.ask_written-requires
 unfolding image_book book_of
-ask_written-asked-requires c = let n = c.user_count-n.result in
+ask_written-requires c = let n = c.user_count-n.result in
     let m = c.trade_count-m.result in
-    (counts (goal.at.ask_written-asked-requires c).Else-not-counted, holds (version (goal.at.ask_written-asked-requires c).Else-not-is_known), c.book_length-len.ensures ∙ ap (λ (v : ℕ). length_by v n m) c.version-version.ensures)
+    (counts (goal.at.ask_written-requires c).Else-not-counted, holds (version (goal.at.ask_written-requires c).Else-not-is_known), c.book_length-len.ensures ∙ ap (λ (v : ℕ). length_by v n m) c.version-version.ensures)
 
-pub returns-then-asked-ne0 : goal.returns-then-asked-ne0
-returns-then-asked-ne0 c = let a = c.args in
-    written_refused (count_of_users a.image.now) (count_of_trades a.image.now) (image_book a.image.now) a.out.now (version (goal.at.returns-then-asked-ne0 c).Else-not-is_known) (sized (goal.at.returns-then-asked-ne0 c).Else-out-len)
-    c.ask_written-asked.result c.ask_written-asked.ensures c.if-asked-ne0.true
+pub returns-in_err-ask_written : goal.returns-in_err-ask_written
+returns-in_err-ask_written c = let a = c.args in
+    rw (handed_on c.from_residual.ensures.1)
+    (written_refused (count_of_users a.image.now) (count_of_trades a.image.now) (image_book a.image.now) a.out.now (version (goal.at.returns-in_err-ask_written c).Else-not-is_known)
+    (sized (goal.at.returns-in_err-ask_written c).Else-out-len) _ c.in_err-ask_written.ensures (refused-nonzero _))
 
 pub write_fields-requires : goal.write_fields-requires
 write_fields-requires c = let n = c.user_count-n.result in
@@ -90,4 +92,4 @@ write_fields-requires c = let n = c.user_count-n.result in
 pub returns : goal.returns
 returns c = let a = c.args in
     written_0 (count_of_users a.image.now) (count_of_trades a.image.now) (image_book a.image.now) a.out.now (version (goal.at.returns c).Else-not-is_known) (sized (goal.at.returns c).Else-out-len)
-    (sym c.ask_written-asked.ensures ∙ c.if-asked-ne0.false) _ c.write_fields.ensures
+    (sym c.in_ok-ask_written.ensures) _ c.write_fields.ensures

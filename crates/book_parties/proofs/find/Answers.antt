@@ -1,6 +1,6 @@
--- `find`: where its guess, which is below n, has the id, it is its place; else the search tells it. Assumes nothing.
-use Rattle.base.specs.Basics.{refl, ◌<◌, arith, get_or}
-use Rattle.book_parties.proofs.Guesses.{guess_found}
+-- `find`: where its guess, which is below n, has the id, it is its index; else the search finds it. Assumes nothing.
+use Rattle.base.specs.Basics.{◌<◌, arith, get_or}
+use Rattle.book_parties.proofs.Search.{found_there}
 use Rattle.book_parties.proofs.find.Goals as goal
 use Rattle.book_parties.proofs.find.Goals.{After-slot_of}
 
@@ -18,7 +18,4 @@ pub bounds-ids-at : goal.bounds-ids-at
 bounds-ids-at c = omega (arith, below (goal.at.bounds-ids-at c).After-slot_of, c.requires.0.few, c.requires.0.full)
 
 pub returns-then-ids-at : goal.returns-then-ids-at
-returns-then-ids-at c = guess_found c.args.ids.now c.args.n c.args.id _ c.requires.0 (below (goal.at.returns-then-ids-at c).After-slot_of) c.if-ids-at.true
-
-pub returns : goal.returns
-returns c = record { stands = c.place_of-place.ensures.0; told = refl; within = c.place_of-place.ensures.1 }
+returns-then-ids-at c = found_there c.args.ids.now c.args.n c.args.id c.requires.0 _ (below (goal.at.returns-then-ids-at c).After-slot_of) c.if-ids-at.true

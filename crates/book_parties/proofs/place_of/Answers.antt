@@ -1,5 +1,5 @@
 -- `place_of`: if the id stands at all, it is one of those left, until one is left; there it is, or it is nowhere. Assumes nothing.
-use Rattle.base.specs.Basics.{arith, rules}
+use Rattle.base.specs.Basics.{arith}
 use Rattle.book_parties.proofs.Search.{search_start, search_turn, search_found, search_none}
 use Rattle.book_parties.proofs.place_of.Goals as goal
 
@@ -13,5 +13,5 @@ loop-count-preserved c = search_turn c.args.ids.now c.args.n c.args.id c.require
 pub returns-then-low-n : goal.returns-then-low-n
 returns-then-low-n c = search_found c.args.ids.now c.args.n c.args.id c.requires c.loop-count.low c.if-low-n.true
 
-pub returns : goal.returns
-returns c = (search_none c.args.ids.now c.args.n c.args.id c.requires c.loop-count.invariant (omega arith) c.if-low-n.false, search rules)
+pub returns-else-low-n : goal.returns-else-low-n
+returns-else-low-n c = search_none c.args.ids.now c.args.n c.args.id c.requires c.loop-count.invariant (omega arith) c.if-low-n.false

@@ -1,4 +1,3 @@
-use Rattle.base.specs.Basics.{◌-◌}
 use Rattle.book_parties.specs.Ids.{users_from}
 use Rattle.book_sums.proofs.Walk.{Passed}
 use Rattle.book_questions.specs.Asked.{manager_given}
@@ -6,6 +5,3 @@ use Rattle.book_questions.proofs.area_valid.Given as goal
 
 abbrev pub invariant-loop-i : goal.invariant-loop-i
 invariant-loop-i l = Passed (manager_given (users_from 68 0 l.n l.s) l.area) (users_from 68 0 l.n l.s) l.i
-
-abbrev pub decreases-loop-i : goal.decreases-loop-i
-decreases-loop-i l = l.n - l.i

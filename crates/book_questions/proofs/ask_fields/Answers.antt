@@ -1,5 +1,5 @@
 -- `ask_fields` asks question 4, and then those of the users and trades. Assumes nothing.
-use Rattle.base.specs.Basics.{◌≡◌, ap, ◌∙◌, ◌≤◌, arith, rules}
+use Rattle.base.specs.Basics.{◌≡◌, ap, ◌∙◌, ◌≤◌, arith}
 use Rattle.book_format.proofs.Offsets.{users_end}
 use Rattle.book_format.proofs.Places.{header_lies}
 use Rattle.book_format.specs.Book.{size_of_user, version_of}
@@ -10,7 +10,9 @@ use Rattle.book_questions.proofs.ask_fields.Goals.{After-trades_offset-trades_at
 
 pub returns-then-not-header_valid : goal.returns-then-not-header_valid
 unfolding past_five past_six
-returns-then-not-header_valid c = record { fields_placed = fields_4 c.args.s.now c.version-version.ensures c.get_u32.ensures c.read_prices-prices.ensures c.header_valid.ensures c.if-not-header_valid.true; summed = summed_none 4 (λ p. p) }
+returns-then-not-header_valid c =
+    rw c.from.ensures
+    (record { fields_placed = fields_4 c.args.s.now c.version-version.ensures c.get_u32.ensures c.read_prices-prices.ensures c.header_valid.ensures c.if-not-header_valid.true; summed = summed_none 4 (λ p. p) })
 
 -- the size of a record, of the version that was read
 sized : (c : goal.After-user_size-size) → c.user_size-size.result ≡ size_of_user (version_of c.args.s.now)
@@ -43,7 +45,7 @@ returns c = let begin = c.users_offset-users_at.ensures.value in
     record {
       fields_placed = fields_rest c.args.s.now c.version-version.ensures c.get_u32.ensures c.read_prices-prices.ensures c.header_valid.ensures c.if-not-header_valid.false
           c.user_count-n.ensures c.trade_count-m.ensures begin (sized (goal.at.returns c).After-user_size-size) end (records_from _ _ _ (behind (goal.at.returns c).After-trades_offset-trades_at) _ _ _ _ c.ask_records.ensures.records_asked);
-      summed = fields_summed c.args.s.now c.user_count-n.ensures c.trade_count-m.ensures begin (sized (goal.at.returns c).After-user_size-size) end (summed_from _ _ _ (behind (goal.at.returns c).After-trades_offset-trades_at) _ _ _ c.ask_records.ensures.summed);
+      summed = (fields_summed c.args.s.now c.user_count-n.ensures c.trade_count-m.ensures begin (sized (goal.at.returns c).After-user_size-size) end (summed_from _ _ _ (behind (goal.at.returns c).After-trades_offset-trades_at) _ _ _ c.ask_records.ensures.summed));
     }
 
 pub read_prices-prices-requires : goal.read_prices-prices-requires

@@ -1,5 +1,5 @@
 -- `ask_records` asks the questions 5 to 7 in their order, and returns at the first that is answered by no. Assumes nothing.
-use Rattle.base.specs.Basics.{◌≡◌, ap, refl, true, ◌&&◌, ℕ, arith, drop, rules, not-true, not-false}
+use Rattle.base.specs.Basics.{◌≡◌, ap, refl, true, ◌&&◌, ℕ, arith, drop, rules}
 use Rattle.base.specs.Lists.{all}
 use Rattle.base.proofs.Tests.{holds}
 use Rattle.fields.proofs.Records.{length-records_of}
@@ -11,12 +11,13 @@ use Rattle.book_questions.specs.Asked.{all_valid, Summed, UsersAsked, past_five,
 use Rattle.book_questions.proofs.Asked.{records_5, records_6, records_sums, records_summed, summed_none, summed_6, records_7, records_0}
 use Rattle.book_questions.proofs.Managers.{fields_groups, users_no, users_yes}
 use Rattle.book_questions.proofs.ask_records.Goals as goal
-use Rattle.book_questions.proofs.ask_records.Goals.{After-groups_valid, After-positions_valid, Else-not-walk}
+use Rattle.book_questions.proofs.ask_records.Goals.{After-groups_valid, After-positions_valid}
 
 pub returns-then-not-fields_valid : goal.returns-then-not-fields_valid
 unfolding past_five past_six
 returns-then-not-fields_valid c = let a = c.args in
-    record { records_asked = records_5 a.version (user_zeros_in a.size 0 a.n a.s.now) (users_no a.version (user_zeros_in a.size 0 a.n a.s.now) c.fields_valid.ensures c.if-not-fields_valid.true) refl; summed = summed_none 5 (λ p. p) }
+    rw c.from.ensures
+    (record { records_asked = records_5 a.version (user_zeros_in a.size 0 a.n a.s.now) (users_no a.version (user_zeros_in a.size 0 a.n a.s.now) c.fields_valid.ensures c.if-not-fields_valid.true) refl; summed = summed_none 5 (λ p. p) })
 
 pub fill_guesses-requires : goal.fill_guesses-requires
 fill_guesses-requires c = (c.fields_valid.ensures.padded (holds {c = c.fields_valid.result} c.if-not-fields_valid.false), c.requires.records_in.0.some, search rules)
@@ -36,23 +37,21 @@ users c = let a = c.args in
 pub returns-then-not-groups_valid : goal.returns-then-not-groups_valid
 unfolding past_five past_six
 returns-then-not-groups_valid c = let a = c.args in
-    record { records_asked = records_5 a.version (user_zeros_in a.size 0 a.n a.s.now) (users (goal.at.returns-then-not-groups_valid c).After-groups_valid) c.if-not-groups_valid.true; summed = summed_none 5 (λ p. p) }
+    rw c.from-then-not-groups_valid.ensures
+    (record { records_asked = records_5 a.version (user_zeros_in a.size 0 a.n a.s.now) (users (goal.at.returns-then-not-groups_valid c).After-groups_valid) c.if-not-groups_valid.true; summed = summed_none 5 (λ p. p) })
 
-pub valid_trades-walk-requires : goal.valid_trades-walk-requires
-valid_trades-walk-requires c = record {
+pub valid_trades-requires : goal.valid_trades-requires
+valid_trades-requires c = record {
   padded = (c.fields_valid.ensures.padded (holds {c = c.fields_valid.result} c.if-not-fields_valid.false), c.fill_guesses.ensures);
   m_bound
       = (c.requires.records_in.0.many, c.requires.records_in.0.trades, c.requires.sellers_len.0, c.requires.sellers_len.1, c.requires.sellers_len.2);
 }
 
-pub returns-then-not-walk : goal.returns-then-not-walk
-returns-then-not-walk c = let a = c.args in
-    let ts = trades_from a.trades_at a.m a.s.now in record {
-      records_asked = records_6 a.version (user_zeros_in a.size 0 a.n a.s.now) {ts = ts}
-          (users (goal.at.returns-then-not-walk c).After-groups_valid) c.valid_trades-walk.ensures c.if-not-groups_valid.false (not-true _ c.if-not-walk.true);
-      summed = summed_6 a.version
-          (user_zeros_in a.size 0 a.n a.s.now) {ts = ts} (users (goal.at.returns-then-not-walk c).After-groups_valid) c.valid_trades-walk.ensures c.if-not-groups_valid.false;
-    }
+pub returns-in-Err : goal.returns-in-Err
+returns-in-Err c = let a = c.args in record {
+  records_asked = records_6 a.version (user_zeros_in a.size 0 a.n a.s.now) {ts = trades_from a.trades_at a.m a.s.now} (users (goal.at.returns-in-Err c).After-groups_valid) c.in-Err.ensures c.if-not-groups_valid.false refl;
+  summed = summed_6 a.version (user_zeros_in a.size 0 a.n a.s.now) {ts = trades_from a.trades_at a.m a.s.now} (users (goal.at.returns-in-Err c).After-groups_valid) c.in-Err.ensures c.if-not-groups_valid.false;
+}
 
 pub positions_valid-requires : goal.positions_valid-requires
 positions_valid-requires c = let p = c.requires.records_in.0 in (p.few, p.wide, p.users)
@@ -62,33 +61,29 @@ positions-answer : (c : goal.After-positions_valid)
     → let a = c.args in
     c.positions_valid.result ≡ all (positions_are_valid (trades_from a.trades_at a.m a.s.now)) (users_from a.size 0 a.n a.s.now)
 positions-answer c = let a = c.args in
-    let ts = trades_from a.trades_at a.m a.s.now in
-    c.positions_valid.ensures.answer ts
-    (records_sums a.version (user_zeros_in a.size 0 a.n a.s.now) {ts = ts} (users (goal.at.After-positions_valid c).After-groups_valid) c.valid_trades-walk.ensures c.if-not-groups_valid.false (holds {c = c.valid_trades-walk.result.valid} (not-false _ c.if-not-walk.false)))
+    c.positions_valid.ensures.answer (trades_from a.trades_at a.m a.s.now)
+    (records_sums a.version (user_zeros_in a.size 0 a.n a.s.now) {ts = trades_from a.trades_at a.m a.s.now} (users (goal.at.After-positions_valid c).After-groups_valid) c.in_default.ensures c.if-not-groups_valid.false tt)
 
 -- the sums are told past question 6
-summed : (number : ℕ) → past_five number ≡ true → (c : goal.Else-not-walk)
+summed : (number : ℕ) → past_five number ≡ true → (c : goal.After-positions_valid)
     → let a = c.args in
-    Summed (users_from a.size 0 a.n a.s.now) (trades_from a.trades_at a.m a.s.now) a.m number c.valid_trades-walk.result.read c.valid_trades-walk.new.sums
+    Summed (users_from a.size 0 a.n a.s.now) (trades_from a.trades_at a.m a.s.now) a.m number a.m c.valid_trades.new.sums
 summed number e c = let a = c.args in
-    records_summed a.version (user_zeros_in a.size 0 a.n a.s.now) {ts = trades_from a.trades_at a.m a.s.now} (users (goal.at.Else-not-walk c).After-groups_valid) c.valid_trades-walk.ensures c.if-not-groups_valid.false
-    (not-false _ c.if-not-walk.false) number e (length-records_of 20 trade_of a.m (drop a.trades_at a.s.now))
+    records_summed a.version (user_zeros_in a.size 0 a.n a.s.now) {ts = trades_from a.trades_at a.m a.s.now} (users (goal.at.After-positions_valid c).After-groups_valid) c.in_default.ensures c.if-not-groups_valid.false
+    refl number e (length-records_of 20 trade_of a.m (drop a.trades_at a.s.now))
 
 pub returns-then-not-positions_valid : goal.returns-then-not-positions_valid
 unfolding past_five past_six
 returns-then-not-positions_valid c = let a = c.args in record {
-  records_asked = records_7 a.version (user_zeros_in a.size 0 a.n a.s.now) {ts = trades_from a.trades_at a.m a.s.now} (users (goal.at.returns-then-not-positions_valid c).After-groups_valid) c.valid_trades-walk.ensures c.if-not-groups_valid.false
-      (not-false _ c.if-not-walk.false) (positions-answer (goal.at.returns-then-not-positions_valid c).After-positions_valid) c.if-not-positions_valid.true;
-  summed = summed 7 refl (goal.at.returns-then-not-positions_valid c).Else-not-walk;
+  records_asked = records_7 a.version (user_zeros_in a.size 0 a.n a.s.now) {ts = trades_from a.trades_at a.m a.s.now} (users (goal.at.returns-then-not-positions_valid c).After-groups_valid) c.in_default.ensures c.if-not-groups_valid.false
+      refl (positions-answer (goal.at.returns-then-not-positions_valid c).After-positions_valid) c.if-not-positions_valid.true;
+  summed = summed 7 refl (goal.at.returns-then-not-positions_valid c).After-positions_valid;
 }
 
 pub returns : goal.returns
 unfolding past_five past_six
 returns c = let a = c.args in record {
-  records_asked = records_0 a.version (user_zeros_in a.size 0 a.n a.s.now) {ts = trades_from a.trades_at a.m a.s.now} (users (goal.at.returns c).After-groups_valid) c.valid_trades-walk.ensures c.if-not-groups_valid.false
-      (not-false _ c.if-not-walk.false) (positions-answer (goal.at.returns c).After-positions_valid) c.if-not-positions_valid.false;
-  summed = summed 0 refl (goal.at.returns c).Else-not-walk;
+  records_asked = records_0 a.version (user_zeros_in a.size 0 a.n a.s.now) {ts = trades_from a.trades_at a.m a.s.now} (users (goal.at.returns c).After-groups_valid) c.in_default.ensures c.if-not-groups_valid.false
+      refl (positions-answer (goal.at.returns c).After-positions_valid) c.if-not-positions_valid.false;
+  summed = summed 0 refl (goal.at.returns c).After-positions_valid;
 }
-
-pub fields_valid-requires : goal.fields_valid-requires
-fields_valid-requires c = let p = c.requires.records_in.0 in (p.few, p.wide, omega (arith, p.users), search rules)

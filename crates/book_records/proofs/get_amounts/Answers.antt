@@ -6,4 +6,4 @@ pub returns : goal.returns
 unfolding amounts_at as_amounts
 returns c =
     rw
-    (c.of_bits-avb.ensures, c.get_u32-3.ensures, c.of_bits-tvb.ensures, c.get_u32-2.ensures, c.of_bits-pvb.ensures, c.get_u32.ensures)
+    (c.of_bits-3.ensures, c.get_u32-3.ensures, c.of_bits-2.ensures, c.get_u32-2.ensures, c.of_bits.ensures, c.get_u32.ensures)

@@ -13,8 +13,8 @@ returns c =
       c.get_u64-2.ensures,
       c.get_u8.ensures,
       c.get_u32.ensures,
-      c.of_bits-charges.ensures,
+      c.of_bits.ensures,
       c.get_u64.ensures,
-      c.get_amounts-position.ensures,
-      c.get_amounts-physical.ensures,
+      c.get_amounts-2.ensures,
+      c.get_amounts.ensures,
     )

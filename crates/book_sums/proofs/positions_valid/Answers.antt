@@ -1,5 +1,5 @@
 -- `positions_valid`: the users that are left have the whole answer, until a position is not as the sums have it or none is left. Assumes nothing.
-use Rattle.base.specs.Basics.{◌≡◌, Bool, List, ◌+◌, ◌≤◌, ◌<◌, arith, length, get_or, length-take, length-drop, rules}
+use Rattle.base.specs.Basics.{◌≡◌, Bool, List, ◌+◌, ◌≤◌, ◌<◌, arith, length, get_or, length-take, length-drop}
 use Rattle.rules.specs.Book.{Trade, nobody}
 use Rattle.rules.specs.Questions.{positions_are_valid}
 use Rattle.fields.proofs.Records.{length-records_of}

@@ -25,12 +25,12 @@ returns c = let s = c.args.s.now in
         users_read s c.read_users-users.result c.version.ensures c.users_offset.ensures.value c.users_size.ensures.value c.user_count-user_count.ensures c.read_users-users.ensures.records,
         c.version.ensures,
         c.get_u32.ensures,
-        c.read_prices-prices.ensures,
+        c.read_prices.ensures,
         kept_read s,
         c.read_trades-trades.ensures.records,
         trades_there s c.trades_offset.ensures c.trade_count-trade_count.ensures,
       );
-      prices = c.read_prices-prices.ensures;
+      prices = c.read_prices.ensures;
       users = c.user_count-user_count.ensures;
       trades = c.trade_count-trade_count.ensures;
       user_room = c.read_users-users.ensures.full;
@@ -39,5 +39,5 @@ returns c = let s = c.args.s.now in
       trade_rest = c.read_trades-trades.ensures.rest;
     }
 
-pub read_prices-prices-requires : goal.read_prices-prices-requires
-read_prices-prices-requires c = header_lies c.requires
+pub read_prices-requires : goal.read_prices-requires
+read_prices-requires c = header_lies c.requires

@@ -19,6 +19,8 @@ pub returns-then-managed : goal.returns-then-managed
 unfolding as_managers managers_at
 returns-then-managed c = rw (c.get_u32-then-managed-2.ensures, c.get_u32-then-managed.ensures, c.get_u32.ensures)
 
-pub returns : goal.returns
+pub returns-else-managed : goal.returns-else-managed
 unfolding as_managers
-returns c = sym (managers_past c.args.c.now (omega (arith, c.requires, plain_size c.args.managed c.if-managed.false)))
+returns-else-managed c =
+    rw (c.default.ensures.0, c.default.ensures.1.0, c.default.ensures.1.1)
+    (sym (managers_past c.args.c.now (omega (arith, c.requires, plain_size c.args.managed c.if-managed.false))))

@@ -12,7 +12,7 @@ pub slice_bounds-read_user-end : goal.slice_bounds-read_user-end
 slice_bounds-read_user-end c = sym (length-take-le 56 c.args.c.now (least (goal.at.slice_bounds-read_user-end c).Start))
 
 pub returns : goal.returns
-returns c = record_read c.args.c.now _ _ c.read_user-user.ensures c.read_managers-managers.ensures
+returns c = record_read c.args.c.now _ _ c.read_user.ensures c.read_managers.ensures
 
-pub read_user-user-requires : goal.read_user-user-requires
-read_user-user-requires c = length-take-le 56 c.args.c.now (least (goal.at.read_user-user-requires c).Start)
+pub read_user-requires : goal.read_user-requires
+read_user-requires c = length-take-le 56 c.args.c.now (least (goal.at.read_user-requires c).Start)

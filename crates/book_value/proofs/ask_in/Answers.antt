@@ -21,15 +21,15 @@ slice_bounds-write_book-end-2 c = rw length-take (omega (arith, c.requires.2))
 pub write_book-requires : goal.write_book-requires
 write_book-requires c = (c.requires.0.users, c.requires.0.trades, rw length-take (omega (arith, c.requires.1, c.requires.2)))
 
-pub slice_bounds-fields_number-end-2 : goal.slice_bounds-fields_number-end-2
-slice_bounds-fields_number-end-2 c = sym (ap length (written (goal.at.slice_bounds-fields_number-end-2 c).After-write_book) ∙ length_written c.args.b c.requires.0 c.write_book.ensures.user_room c.write_book.ensures.trade_room ∙ sym c.requires.1)
+pub slice_bounds-check_fields-end-2 : goal.slice_bounds-check_fields-end-2
+slice_bounds-check_fields-end-2 c = sym (ap length (written (goal.at.slice_bounds-check_fields-end-2 c).After-write_book) ∙ length_written c.args.b c.requires.0 c.write_book.ensures.user_room c.write_book.ensures.trade_room ∙ sym c.requires.1)
 
-pub fields_number-requires : goal.fields_number-requires
-fields_number-requires c = (
-  rw (written (goal.at.fields_number-requires c).After-write_book) (formed_written c.args.b c.requires.0 c.write_book.ensures.user_room c.write_book.ensures.trade_room),
+pub check_fields-requires : goal.check_fields-requires
+check_fields-requires c = (
+  rw (written (goal.at.check_fields-requires c).After-write_book) (formed_written c.args.b c.requires.0 c.write_book.ensures.user_room c.write_book.ensures.trade_room),
   search rules,
   search rules,
 )
 
 pub returns : goal.returns
-returns c = c.fields_number.ensures.asked ∙ ap fields_number_of (written (goal.at.returns c).After-write_book)
+returns c = c.check_fields.ensures.asked ∙ ap fields_number_of (written (goal.at.returns c).After-write_book)

@@ -1,5 +1,6 @@
 -- `write` asks the version, the counts and the part's length, then the bytes that it would write, and writes only where all are answered by yes. Assumes nothing.
-use Rattle.base.specs.Basics.{◌≡◌, sym, ap, ap₂, ◌∙◌, Bool, true, false, ◌&&◌, eqb, length, eq-eqb, ne_eqb, not-true, not-false}
+use Rattle.base.specs.Basics.{◌≡◌, sym, ap, ap₂, ◌∙◌, Bool, true, false, ◌&&◌, eqb, length, eq-eqb, ne_eqb}
+use Rattle.refusals.proofs.Numbers.{handed_on, refused-nonzero}
 use Rattle.rules.specs.Questions.{version_known}
 use Rattle.book_format.specs.Book.{length_by}
 use Rattle.book_tables.specs.Book.{as_book}
@@ -9,11 +10,11 @@ use Rattle.book_value.proofs.write.Goals as goal
 use Rattle.book_value.proofs.write.Goals.{After-book_length-len, Else-not-counted, Else-not-is_known, Else-out-len}
 
 version : (c : goal.Else-not-is_known) → version_known c.args.b.version ≡ true
-version c = sym c.is_known.ensures ∙ not-false _ c.if-not-is_known.false-raw
+version c = sym c.is_known.ensures ∙ c.if-not-is_known.false
 
 counted : (c : goal.Else-not-counted) → counts_in_range c.args.b.user_count c.args.b.trade_count ≡ true
 unfolding counts_in_range
-counted c = not-false _ c.if-not-counted.false-raw
+counted c = c.if-not-counted.false
 
 -- the length that version and counts ask for
 asked-length : (c : goal.After-book_length-len) → let b = c.args.b in c.book_length-len.result ≡ length_by b.version b.user_count b.trade_count
@@ -29,12 +30,12 @@ sized c = let a = c.args in
 pub returns-then-not-is_known : goal.returns-then-not-is_known
 unfolding as_book
 returns-then-not-is_known c = let a = c.args in
-    written_2 a.b.user_count a.b.trade_count (as_book a.b) a.out.now (sym c.is_known.ensures ∙ not-true _ c.if-not-is_known.true-raw)
+    written_2 a.b.user_count a.b.trade_count (as_book a.b) a.out.now (sym c.is_known.ensures ∙ c.if-not-is_known.true)
 
 pub returns-then-not-counted : goal.returns-then-not-counted
 unfolding counts_in_range as_book
 returns-then-not-counted c = let a = c.args in
-    let e : counts_in_range a.b.user_count a.b.trade_count ≡ false = not-true _ c.if-not-counted.true-raw in
+    let e : counts_in_range a.b.user_count a.b.trade_count ≡ false = c.if-not-counted.true in
     written_3 a.b.user_count a.b.trade_count (as_book a.b) a.out.now (version (goal.at.returns-then-not-counted c).Else-not-is_known) (ap (λ (x : Bool). x && eqb (length a.out.now) (length_by a.b.version a.b.user_count a.b.trade_count)) e)
 
 pub returns-then-out-len : goal.returns-then-out-len
@@ -43,13 +44,14 @@ returns-then-out-len c = let a = c.args in
     written_3 a.b.user_count a.b.trade_count (as_book a.b) a.out.now (version (goal.at.returns-then-out-len c).Else-not-is_known)
     (ap₂ (λ (x y : Bool). x && y) (counted (goal.at.returns-then-out-len c).Else-not-counted) (ne_eqb (length a.out.now) _ (λ e. c.if-out-len.true (e ∙ sym (asked-length (goal.at.returns-then-out-len c).After-book_length-len)))))
 
-pub ask_written-asked-requires : goal.ask_written-asked-requires
-ask_written-asked-requires c = (in_counts c.args.b (version (goal.at.ask_written-asked-requires c).Else-not-is_known) (counted (goal.at.ask_written-asked-requires c).Else-not-counted), asked-length (goal.at.ask_written-asked-requires c).After-book_length-len)
+pub ask_written-requires : goal.ask_written-requires
+ask_written-requires c = (in_counts c.args.b (version (goal.at.ask_written-requires c).Else-not-is_known) (counted (goal.at.ask_written-requires c).Else-not-counted), asked-length (goal.at.ask_written-requires c).After-book_length-len)
 
-pub returns-then-asked-ne0 : goal.returns-then-asked-ne0
+pub returns-in_err-ask_written : goal.returns-in_err-ask_written
 unfolding as_book
-returns-then-asked-ne0 c = let a = c.args in
-    written_refused a.b.user_count a.b.trade_count (as_book a.b) a.out.now (version (goal.at.returns-then-asked-ne0 c).Else-not-is_known) (sized (goal.at.returns-then-asked-ne0 c).Else-out-len) c.ask_written-asked.result c.ask_written-asked.ensures c.if-asked-ne0.true
+returns-in_err-ask_written c = let a = c.args in
+    rw (handed_on c.from_residual.ensures.1)
+    (written_refused a.b.user_count a.b.trade_count (as_book a.b) a.out.now (version (goal.at.returns-in_err-ask_written c).Else-not-is_known) (sized (goal.at.returns-in_err-ask_written c).Else-out-len) _ c.in_err-ask_written.ensures (refused-nonzero _))
 
 pub write_book-requires : goal.write_book-requires
 write_book-requires c = let k = in_counts c.args.b (version (goal.at.write_book-requires c).Else-not-is_known) (counted (goal.at.write_book-requires c).Else-not-counted) in
@@ -58,4 +60,4 @@ write_book-requires c = let k = in_counts c.args.b (version (goal.at.write_book-
 pub returns : goal.returns
 unfolding as_book
 returns c = let a = c.args in
-    written_0 a.b.user_count a.b.trade_count (as_book a.b) a.out.now (version (goal.at.returns c).Else-not-is_known) (sized (goal.at.returns c).Else-out-len) (sym c.ask_written-asked.ensures ∙ c.if-asked-ne0.false) _ c.write_book.ensures.bytes
+    written_0 a.b.user_count a.b.trade_count (as_book a.b) a.out.now (version (goal.at.returns c).Else-not-is_known) (sized (goal.at.returns c).Else-out-len) (sym c.in_ok-ask_written.ensures) _ c.write_book.ensures.bytes

@@ -1,4 +1,4 @@
--- `form_number` asks the questions in their order and returns at the first that is answered by no. Assumes nothing.
+-- `ask_form` asks the questions in their order and returns at the first that is answered by no. Assumes nothing.
 use mathlib.Core.Path.{◌≡◌, sym, ◌∙◌}
 use mathlib.Core.Bool.{true}
 use mathlib.Core.List.{List}
@@ -7,8 +7,8 @@ use borrow.Author.Tests.{not-true, not-false}
 use Rattle.rules.specs.Questions.{after, refusal}
 use Rattle.book_format.specs.Questions.{marked, versioned, about_form, form_number_of}
 use Rattle.book_format.proofs.Formed.{marked_head}
-use Rattle.book_header.proofs.form_number.Goals as goal
-use Rattle.book_header.proofs.form_number.Goals.{After-is_marked, Else-not-is_marked, Else-not-is_versioned}
+use Rattle.book_header.proofs.ask_form.Goals as goal
+use Rattle.book_header.proofs.ask_form.Goals.{After-is_marked, Else-not-is_marked, Else-not-is_versioned}
 
 abbrev bytes : goal.After-is_marked → List ℕ
 bytes c = c.args.s.now
