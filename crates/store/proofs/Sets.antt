@@ -27,9 +27,8 @@ no_set s n i h = drop_of_length-le (sets_from n s) {i = i} (rw length-records_of
 
 -- ---- are they valid
 
--- where i of n sets were valid, the last of which began on `last`, and the next stands at a: those left have the whole answer
-pub record SetsLeft (s : List ℕ) (n last i a : ℕ) : Type 0 where
-  pub place : a ≡ 6 + 24 * i
+-- where i of n sets were valid, the last of which began on `last`: those left have the whole answer
+pub record SetsLeft (s : List ℕ) (n last i : ℕ) : Type 0 where
   pub within : i ≤ n
   pub answer : sets_are_valid 0 (sets_from n s) ≡ sets_are_valid last (drop i (sets_from n s))
 
@@ -41,13 +40,9 @@ valid_next last {p = p} {rest = rest} e h k =
     ap (sets_are_valid last) e ∙ ap₂ (λ (a b : Bool). (a && firsts_rise p.first rest) && (b && all set_is_valid rest)) h k
 
 module _ {s : List ℕ} {n : ℕ} where
-  -- before the first
-  pub sets_start : SetsLeft s n 0 0 6
-  sets_start = record { place = omega arith; within = omega arith; answer = refl }
-
-  module _ {last i a : ℕ} (before : SetsLeft s n last i a) (h : i < n) {p : ParameterSet} (e : p ≡ set_of (take (a + 24 - a) (drop a s))) where
+  module _ {last i a : ℕ} (before : SetsLeft s n last i) (h : i < n) (place : a ≡ 6 + 24 * i) {p : ParameterSet} (e : p ≡ set_of (take (a + 24 - a) (drop a s))) where
     next : drop i (sets_from n s) ≡ p ∷ drop (i + 1) (sets_from n s)
-    next = next_set s n i before.place h e
+    next = next_set s n i place h e
 
     -- its first date is not after the last
     pub sets_date_no : p.first ≤ last → false ≡ sets_are_valid 0 (sets_from n s)
@@ -62,17 +57,16 @@ module _ {s : List ℕ} {n : ℕ} where
         ∙ and-false (ltb last p.first && firsts_rise p.first (drop (i + 1) (sets_from n s))))
 
     -- its first date is, and it is
-    pub sets_turn : last < p.first → set_is_valid p ≡ true → SetsLeft s n p.first (i + 1) (a + 24)
+    pub sets_turn : last < p.first → set_is_valid p ≡ true → SetsLeft s n p.first (i + 1)
     unfolding sets_are_valid
     sets_turn k v =
         record {
-          place = omega (arith, before.place);
           within = omega arith;
           answer = before.answer ∙ valid_next last next (lt-ltb last p.first k) v;
         }
 
   -- none is left
-  pub sets_end : {last i a : ℕ} → SetsLeft s n last i a → n ≤ i → true ≡ sets_are_valid 0 (sets_from n s)
+  pub sets_end : {last i : ℕ} → SetsLeft s n last i → n ≤ i → true ≡ sets_are_valid 0 (sets_from n s)
   unfolding sets_are_valid firsts_rise all
   sets_end {last} {i} before h = sym (before.answer ∙ ap (sets_are_valid last) (no_set s n i h))
 

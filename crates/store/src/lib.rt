@@ -4,11 +4,11 @@
 
 ghost use Rattle.std.specs.Prelude.{◌≡◌, ◌+◌, ◌*◌, ◌≤◌, length};
 ghost use Rattle.std.proofs.Math.Option.{some};
-ghost use Rattle.rules.specs.Levels.{today};
-ghost use Rattle.units.specs.Limits.{as_limits};
-ghost use Rattle.store.specs.Store.{set_of, sets_from, store_formed, set_is_valid, sets_are_valid, set_in_force, given};
-ghost use Rattle.store.specs.Asked.{as_set, ByForce, ByStore};
+ghost use Rattle.refusals.specs.Refusal.{number_in};
+ghost use Rattle.store.specs.Store.{set_of, sets_from, store_formed, set_is_valid, sets_are_valid, set_in_force};
+ghost use Rattle.store.specs.Asked.{as_set, figures_in, lent, ByForce, ByStore};
 
+use refusals::Refusal;
 use units::{Cents, Energy, Limits};
 
 // A parameter set: its figures, and the first date on which they are in force. They are as the bytes have them: whether they are valid is
@@ -16,13 +16,6 @@ use units::{Cents, Energy, Limits};
 #[derive(Clone, Copy)]
 pub struct ParameterSet {
     pub first: u32,
-    pub limits: Limits,
-}
-
-// What a store gives a call: the number of the first question that it fails, 0 where it fails none, and the figures.
-#[derive(Clone, Copy)]
-pub struct Figures {
-    pub number: u32,
     pub limits: Limits,
 }
 
@@ -48,16 +41,13 @@ fn read_set(c: &[u8]) -> ParameterSet
     requires { length c.now ≡ 24 }
     ensures { as_set result ≡ set_of c.now }
 {
-    let first = fields::get_u32(c, 0);
-    let energy = fields::get_u32(c, 4) as u64;
-    let limits = Limits {
-        margin: Cents(fields::get_u64(c, 8)),
-        floor: Cents(fields::get_u64(c, 16)),
-        flag_mwh: Energy(energy),
-    };
     ParameterSet {
-        first: first,
-        limits: limits,
+        first: fields::get_u32(c, 0),
+        limits: Limits {
+            margin: Cents(fields::get_u64(c, 8)),
+            floor: Cents(fields::get_u64(c, 16)),
+            flag_mwh: Energy(fields::get_u32(c, 4) as u64),
+        },
     }
 }
 
@@ -77,9 +67,8 @@ fn sets_valid(s: &[u8], n: usize) -> bool
     ensures { result ≡ sets_are_valid 0 (sets_from n s.now) }
 {
     let mut last = 0;
-    let mut i = 0;
-    let mut a = 6;
-    while i < n {
+    for i in 0..n {
+        let a = 6 + 24 * i;
         let p = read_set(&s[a..a + 24]);
         if p.first <= last {
             return false;
@@ -88,66 +77,47 @@ fn sets_valid(s: &[u8], n: usize) -> bool
             return false;
         }
         last = p.first;
-        a += 24;
-        i += 1;
     }
     true
 }
 
 // ---- figures
 
-// Today's figures, with a number.
-fn today_with(number: u32) -> Figures
-    ensures { (result.number ≡ number) × (as_limits result.limits ≡ today) }
-{
-    let limits = Limits::today();
-    Figures {
-        number: number,
-        limits: limits,
-    }
-}
-
 // The figures of the set in force on a date: the sets are asked from the last one down, and the first that has begun by then is the one.
-fn in_force(s: &[u8], n: usize, date: u32) -> Figures
+fn in_force(s: &[u8], n: usize, date: u32) -> Result<Limits, Refusal>
     requires { 6 + 24 * n ≤ length s.now }
-    ensures { ByForce (set_in_force date (sets_from n s.now)) result.number (as_limits result.limits) }
+    ensures { ByForce (set_in_force date (sets_from n s.now)) (number_in result) (figures_in result) }
 {
-    let mut i = n;
-    while 0 < i {
-        i -= 1;
+    for i in (0..n).rev() {
         let a = 6 + 24 * i;
         let p = read_set(&s[a..a + 24]);
         if p.first <= date {
-            let limits = p.limits;
-            return Figures {
-                number: 0,
-                limits: limits,
-            };
+            return Ok(p.limits);
         }
     }
-    today_with(17)
+    Err(Refusal::NoSetInForce)
 }
 
-// The number and the figures of a store on a date.
-fn of_store(s: &[u8], date: u32) -> Figures
-    ensures { ByStore (some s.now) date result.number (as_limits result.limits) }
+// The figures of a store on a date.
+fn of_store(s: &[u8], date: u32) -> Result<Limits, Refusal>
+    ensures { ByStore (some s.now) date (number_in result) (figures_in result) }
 {
     if !is_formed(s) {
-        return today_with(16);
+        return Err(Refusal::MalformedStore);
     }
     let n = fields::get_u8(s, 5) as usize;
     if !sets_valid(s, n) {
-        return today_with(16);
+        return Err(Refusal::MalformedStore);
     }
     in_force(s, n, date)
 }
 
-// The number and the figures of a call on a book of a date: today's where it is given no store, and where its store is refused.
-pub fn figures_on(date: u32, with_store: bool, store: &[u8]) -> Figures
-    ensures { ByStore (given with_store store.now) date result.number (as_limits result.limits) }
+// The figures of a call on a book of a date: those of its store, today's where it is given none.
+pub fn figures_on(date: u32, store: Option<&[u8]>) -> Result<Limits, Refusal>
+    ensures { ByStore (lent store.entry) date (number_in result) (figures_in result) }
 {
-    if !with_store {
-        return today_with(0);
+    match store {
+        Some(s) => of_store(s, date),
+        None => Ok(Limits::today()),
     }
-    of_store(store, date)
 }

@@ -1,5 +1,5 @@
 -- `in_force`: none of the sets that are passed, from the last one down, has begun, until one has or none is left. Assumes nothing.
-use Rattle.base.specs.Basics.{refl, arith, length-take, length-drop}
+use Rattle.base.specs.Basics.{refl, arith}
 use Rattle.store.specs.Asked.{as_set}
 use Rattle.store.proofs.Sets.{later_start, later_yes, later_no, later_end}
 use Rattle.store.proofs.Ways.{force_found, force_none}
@@ -14,10 +14,7 @@ unfolding as_set
 loop-i-preserved c = later_no c.loop-i.invariant (omega arith) refl c.read_set-p.ensures c.if-p-date.false
 
 pub returns : goal.returns
-returns c = force_none (later_end c.loop-i.invariant (omega arith)) c.today_with.ensures.0 c.today_with.ensures.1
+returns c = force_none (later_end c.loop-i.invariant (omega arith)) refl refl
 
 pub loop-i-init : goal.loop-i-init
 loop-i-init c = later_start
-
-pub read_set-p-requires : goal.read_set-p-requires
-read_set-p-requires c = simp (length-take, length-drop) (omega arith)

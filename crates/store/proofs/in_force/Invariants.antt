@@ -3,6 +3,3 @@ use Rattle.store.proofs.in_force.Given as goal
 
 abbrev pub invariant-loop-i : goal.invariant-loop-i
 invariant-loop-i l = NoneLater l.s l.n l.date l.i
-
-abbrev pub decreases-loop-i : goal.decreases-loop-i
-decreases-loop-i l = l.i

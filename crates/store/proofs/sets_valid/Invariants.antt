@@ -1,9 +1,5 @@
-use Rattle.base.specs.Basics.{◌-◌}
 use Rattle.store.proofs.Sets.{SetsLeft}
 use Rattle.store.proofs.sets_valid.Given as goal
 
 abbrev pub invariant-loop-i : goal.invariant-loop-i
-invariant-loop-i l = SetsLeft l.s l.n l.last l.i l.a
-
-abbrev pub decreases-loop-i : goal.decreases-loop-i
-decreases-loop-i l = l.n - l.i
+invariant-loop-i l = SetsLeft l.s l.n l.last l.i
