@@ -23,11 +23,7 @@ fn raised(bits: u32, energy: u32) -> u32
     requires { pos_part (signed_of 32 bits) + energy < 2 ^ 31 }
     ensures { result ≡ bits_of 32 (signed_of 32 bits +ℤ pos energy) }
 {
-    let room = 4294967295 - bits;
-    if energy <= room {
-        return bits + energy;
-    }
-    energy - room - 1
+    bits.wrapping_add(energy)
 }
 
 // The same after it falls.
@@ -35,10 +31,7 @@ fn lowered(bits: u32, energy: u32) -> u32
     requires { neg_part (signed_of 32 bits) + energy ≤ 2 ^ 31 }
     ensures { result ≡ bits_of 32 (signed_of 32 bits +ℤ neg_ℤ (pos energy)) }
 {
-    if energy <= bits {
-        return bits - energy;
-    }
-    4294967295 - (energy - bits - 1)
+    bits.wrapping_sub(energy)
 }
 
 // Raises the position of the user at a place in an area by an energy.
@@ -77,13 +70,7 @@ fn count_losing(cuts: &[u64; 256], from: usize, to: usize) -> usize
     requires { (from ≤ to) × (to ≤ 256) × (to ≤ length cuts.now) }
     ensures { (result ≡ losing (part from to cuts.now)) × (result ≤ 256) }
 {
-    let mut lost = 0;
-    let mut k = from;
-    while k < to {
-        lost = cut_lists::place_after(lost, 0 < cuts[k]);
-        k += 1;
-    }
-    lost
+    cuts[from..to].iter().filter(|cut| 0 < **cut).count()
 }
 
 // Moves the positions of the parties of a sale by its cut, and notes its place and the cut as the next of those that lose something; gives
@@ -133,14 +120,12 @@ fn move_all(
     ensures { MovedBy (book_of book.old) (part from to origins.now) (part from to cuts.now) places.new amounts.new book.new }
 {
     let mut lost = 0;
-    let mut k = from;
-    while k < to {
+    for k in from..to {
         let place = indices::index(origins[k]);
         let seller = indices::index(sellers[place]);
         let buyer = indices::index(buyers[place]);
         let cut = cuts[k];
         lost = cut_sale(book, at, seller, buyer, place, cut, lost, places, amounts);
-        k += 1;
     }
 }
 
@@ -169,8 +154,8 @@ fn apply_noting(
     cut_records::lower_sales(book, at, places, amounts);
 }
 
-// The same with room for 32.
-fn apply_few(
+// The same with room for N.
+fn apply_lost<const N: usize>(
     book: &mut [u8],
     n: usize,
     sellers: &[u8; 256],
@@ -181,44 +166,13 @@ fn apply_few(
     to: usize,
     lost: usize,
 )
-    requires cutting { Cutting book.old sellers.now buyers.now origins.now cuts.now from to lost × (lost ≤ 32) }
+    requires cutting { Cutting book.old sellers.now buyers.now origins.now cuts.now from to lost × (lost ≤ N) }
     requires n_value { n ≡ count_of_users book.old }
+    requires room { N ≤ 256 }
     ensures { HeldAs (with_trades (book_of book.old) (lowered_at (part from to origins.now) (part from to cuts.now) (book_of book.old).trades)) book.new }
 {
-    let mut places = [0u8; 32];
-    let mut amounts = [0u64; 32];
-    apply_noting(
-        book,
-        n,
-        sellers,
-        buyers,
-        origins,
-        cuts,
-        from,
-        to,
-        &mut places[..lost],
-        &mut amounts[..lost],
-    );
-}
-
-// The same with room for 256.
-fn apply_many(
-    book: &mut [u8],
-    n: usize,
-    sellers: &[u8; 256],
-    buyers: &[u8; 256],
-    origins: &[u8; 256],
-    cuts: &[u64; 256],
-    from: usize,
-    to: usize,
-    lost: usize,
-)
-    requires cutting { Cutting book.old sellers.now buyers.now origins.now cuts.now from to lost × (lost ≤ 256) }
-    requires n_value { n ≡ count_of_users book.old }
-    ensures { HeldAs (with_trades (book_of book.old) (lowered_at (part from to origins.now) (part from to cuts.now) (book_of book.old).trades)) book.new }
-{
-    let mut places = [0u8; 256];
-    let mut amounts = [0u64; 256];
+    let mut places = [0u8; N];
+    let mut amounts = [0u64; N];
     apply_noting(
         book,
         n,
@@ -250,8 +204,8 @@ pub fn apply(
 {
     let lost = count_losing(cuts, from, to);
     if lost <= 32 {
-        apply_few(book, n, sellers, buyers, origins, cuts, from, to, lost);
-        return;
+        apply_lost::<32>(book, n, sellers, buyers, origins, cuts, from, to, lost);
+    } else {
+        apply_lost::<256>(book, n, sellers, buyers, origins, cuts, from, to, lost);
     }
-    apply_many(book, n, sellers, buyers, origins, cuts, from, to, lost);
 }

@@ -26,15 +26,13 @@ pub fn fill_below_notified(
     ensures { CutFlags (users_in book.now) (trades_in book.now) below_notified.new }
 {
     let at = book_format::trades_offset(book, n);
-    let mut i = 0;
-    while i < m {
+    for i in 0..m {
         let t = book_format::trade_at(book, at, i);
         let below = t.standing.0 < t.notified.0;
         let seller = indices::index(bearing_sellers[i]);
-        below_notified[seller] = below_notified[seller] | below;
+        below_notified[seller] |= below;
         let buyer = indices::index(bearing_buyers[i]);
-        below_notified[buyer] = below_notified[buyer] | below;
-        i += 1;
+        below_notified[buyer] |= below;
     }
 }
 
@@ -64,12 +62,5 @@ pub fn below_notified_at(
     ensures { result ≡ cut_before (id_at (users_in book.now) place) (trades_in book.now) }
 {
     let at = book_format::trades_offset(book, n);
-    let mut i = 0;
-    while i < m {
-        if is_below_notified(book, at, i, bearing_sellers[i], bearing_buyers[i], place) {
-            return true;
-        }
-        i += 1;
-    }
-    false
+    (0..m).any(|i| is_below_notified(book, at, i, bearing_sellers[i], bearing_buyers[i], place))
 }

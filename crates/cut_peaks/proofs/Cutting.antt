@@ -1,17 +1,13 @@
 -- The highest sales from a place on are cut one by one: which are cut, and the place of the next. Assumes nothing.
-use Rattle.base.specs.Basics.{◌≡◌, subst, ◌∙◌, List, ℕ, ◌+◌, ◌≤◌, ◌<◌, max, arith, length, get_or, set, length-set, get_or-set_other, get_or-set_same}
+use Rattle.base.specs.Basics.{◌≡◌, sym, subst, ◌∙◌, List, ℕ, ◌+◌, ◌≤◌, ◌<◌, max, arith, length, get_or, set, length-set, get_or-set_other, get_or-set_same}
 use Rattle.base.proofs.Linear.{by_order}
+use Rattle.std.specs.Prelude.{Option, None, Some, MatchOption}
+use Rattle.std.specs.Option.{unwrap_or}
 use Rattle.cut_worth.specs.Rates.{Sales, rated}
 use Rattle.laws_sales.proofs.Ranges.{cond-le}
 use Rattle.cut_peaks.specs.Peaks.{Highest, NextPeak, NoneCut, PeakCuts, Peaked, Shared, amount_at_place}
 
 -- ---- places passed one by one
-
--- of the places passed from a start on, none has a sale that stands at an amount
-pub record NotYet (rates ns areas : List ℕ) (mwh start to i : ℕ) : Type 0 where
-  pub starts : start ≤ i
-  pub ends : i ≤ to
-  pub before : (k : ℕ) → start ≤ k → k < i → amount_at_place rates ns areas k < mwh
 
 module _ {rates ns areas : List ℕ} where
   -- none stands above
@@ -32,25 +28,11 @@ module _ {rates ns areas : List ℕ} where
   pub highest_end : {from to i mwh : ℕ} → to ≤ i → Highest rates ns areas from i mwh → Highest rates ns areas from to mwh
   highest_end h p = record { some = p.some; few = p.few; most = λ k l m. p.most k l (omega arith) }
 
-  -- none stands at it
-  pub next_start : {mwh start to : ℕ} → start ≤ to → NotYet rates ns areas mwh start to start
-  next_start h = record { starts = omega arith; ends = h; before = λ i l m. absurd (omega arith) }
-
-  module _ {mwh start to i : ℕ} (p : NotYet rates ns areas mwh start to i) {amount : ℕ} (e : amount ≡ amount_at_place rates ns areas i) where
-    pub next_more : i < to → amount < mwh → NotYet rates ns areas mwh start to (i + 1)
-    next_more h l =
-        record {
-          starts = omega (arith, p.starts);
-          ends = omega arith;
-          before = λ k m o.
-              by_order k i (λ q. p.before k m q) (λ q. let z : i ≡ k = omega arith in subst (λ (j : ℕ). amount_at_place rates ns areas j < mwh) z (omega arith));
-        }
-
-    pub next_found : i < to → mwh ≤ amount → NextPeak rates ns areas mwh start to i
-    next_found h l = record { starts = p.starts; ends = p.ends; before = p.before; here = λ m. omega arith }
-
-  pub next_none : {mwh start to i : ℕ} → NotYet rates ns areas mwh start to i → to ≤ i → NextPeak rates ns areas mwh start to i
-  next_none p h = record { starts = p.starts; ends = p.ends; before = p.before; here = λ m. absurd (omega arith) }
+  -- the next that stands at it, or the end
+  pub next_or_end : {mwh start to : ℕ} (r : Option ℕ) → MatchOption r (NextPeak rates ns areas mwh start to to) (λ i. NextPeak rates ns areas mwh start to i × (i < to)) → {i : ℕ}
+      → i ≡ unwrap_or r to → NextPeak rates ns areas mwh start to i
+  next_or_end {mwh} {start} {to} None n e = subst (λ (i : ℕ). NextPeak rates ns areas mwh start to i) (sym e) n
+  next_or_end {mwh} {start} {to} (Some k) n e = subst (λ (i : ℕ). NextPeak rates ns areas mwh start to i) (sym e) n.0
 
 -- ---- their cuts
 

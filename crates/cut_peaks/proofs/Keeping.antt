@@ -1,8 +1,8 @@
 -- What is kept of a seller is that of its sales; the cuts of its highest sales are those of both tiers. Assumes nothing.
-use Rattle.base.specs.Basics.{◌≡◌, refl, sym, ap, subst, ◌∙◌, inl, inr, Bool, true, false, cond, not, ◌||◌, List, [], ◌∷◌, ℕ, zero, suc, ◌*◌, ◌-◌, ◌≤◌, ◌<◌, arith}
+use Rattle.base.specs.Basics.{◌≡◌, refl, sym, ap, subst, ◌∙◌, inl, inr, Bool, true, false, cond, not, ◌||◌, List, [], ◌∷◌, ℕ, ◌*◌, ◌-◌, ◌≤◌, ◌<◌, arith}
 use Rattle.base.specs.Basics.{T, min, eqb, ltb, lt-ltb, length, get_or, ext_get_or, length-sets, sets}
 use Rattle.base.proofs.Linear.{by_order}
-use Rattle.base.proofs.Tests.{by_case, of_three, or-true}
+use Rattle.base.proofs.Tests.{of_three, or-true}
 use Rattle.cut_shares.proofs.Cases.{tier_none}
 use Rattle.cut_shares.specs.Cuts.{added}
 use Rattle.cut_tiers.proofs.After.{cuts_of_same}
@@ -20,33 +20,21 @@ use Rattle.rules.specs.Shares.{cuts_of_tier, tier_worth}
 use Rattle.units.specs.Prices.{InRange}
 use Rattle.cut_peaks.specs.Keeping.{Below, bounded, height_in, lowered_to, height_of_tier, Chosen, Fits, KeptFor, SameShort, short_of, tier_rates}
 use Rattle.cut_peaks.specs.Peaks.{Highest, NextPeak, NoneCut, PeakCuts, Peaked, amount_at_place, tier_of}
-use Rattle.cut_peaks.specs.declared.Choice.{Choice}
+use Rattle.cut_peaks.specs.declared.Choice.TheVariants.{Filled, Partial}
 use Rattle.cut_peaks.specs.declared.Heights.{Heights}
 use Rattle.cut_peaks.specs.declared.Kept.{Kept}
 use Rattle.cut_peaks.specs.declared.Peak.{Peak}
+use Rattle.cut_peaks.specs.declared.Sweep.{Sweep}
+use Rattle.std.specs.Prelude.{Option, None, Some, MatchOption}
+use Rattle.std.specs.Option.{ForSome}
 
 pub never : false ≡ true → ⊥
 never e = subst (λ (t : Bool). T (not t)) e tt
 
 -- ---- the areas
 
-pub same_short : {k : Kept} {short : List Bool} → k.pvb ≡ get_or short 0 false → k.tvb ≡ get_or short 1 false → k.avb ≡ get_or short 2 false → SameShort k short
-same_short {k} {short} p t a = record { each = go }
-  where
-    go : (area : ℕ) → area < 3 → short_of k area ≡ get_or short area false
-    go zero h = p
-    go (suc zero) h = t
-    go (suc (suc zero)) h = a
-    go (suc (suc (suc n))) h = absurd (omega arith)
-
--- two answers that do not differ are the same
-pub differ_yes : (one other : Bool) → one ≡ true → not other ≡ false → one ≡ other
-differ_yes true true e f = refl
-differ_yes true false e f = f
-differ_yes false other e f = absurd (never e)
-
-pub differ_no : (one other : Bool) → one ≡ false → other ≡ false → one ≡ other
-differ_no one other e f = e ∙ sym f
+pub same_short : {k : Kept} {short : List Bool} → k.short ≡ short → SameShort k short
+same_short {k} {short} e = record { each = λ area h. ap (λ (xs : List Bool). get_or xs area false) e }
 
 -- ---- a look through the sales
 
@@ -113,9 +101,9 @@ min-le : (c : Bool) (h most : ℕ) → cond c (min h most) h ≤ h
 min-le true h most = omega arith
 min-le false h most = omega arith
 
-pub below_lowered : {h : Heights} {rates ns areas : List ℕ} {mwh from to place : ℕ} → Sales ns areas from to → Below h ns areas from to → NextPeak rates ns areas mwh from to place → to ≤ place
+pub below_lowered : {h : Heights} {rates ns areas : List ℕ} {mwh from to : ℕ} → Sales ns areas from to → Below h ns areas from to → NextPeak rates ns areas mwh from to to
     → {low : Heights} → low ≡ lowered_to h rates (mwh - 1) → Below low ns areas from to
-below_lowered {h} {rates} {ns} {areas} {mwh} {from} {to} s b p end e =
+below_lowered {h} {rates} {ns} {areas} {mwh} {from} {to} s b p e =
     subst (λ (x : Heights). Below x ns areas from to) (sym e)
     (record {
       most = λ i l m.
@@ -141,20 +129,16 @@ below_all {ns} {areas} s =
       few = of_three (λ (area : ℕ). height_in bounded area ≤ 100000) (omega arith) (omega arith) (omega arith);
     }
 
-pub below_known : {f : Prices} {k : Kept} {ns areas : List ℕ} {from to : ℕ} → Sales ns areas from to → (k.known ≡ true → KeptFor f k ns areas from to) → {h : Heights}
-    → (k.known ≡ true → h ≡ k.heights) × (k.known ≡ false → h ≡ bounded) → Below h ns areas from to
-below_known {f} {k} {ns} {areas} {from} {to} s p e =
-    by_case k.known (λ t. subst (λ (x : Heights). Below x ns areas from to) (sym (e.0 t)) (p t).below)
-    (λ t. subst (λ (x : Heights). Below x ns areas from to) (sym (e.1 t)) (below_all s))
+pub below_known : {f : Prices} {ns areas : List ℕ} {from to : ℕ} → Sales ns areas from to → (kept : Option Kept) → ForSome kept (λ k. KeptFor f k ns areas from to) → (h : Heights)
+    → MatchOption kept (h ≡ bounded) (λ k. h ≡ k.heights) → Below h ns areas from to
+below_known {f} {ns} {areas} {from} {to} s None p h e = subst (λ (x : Heights). Below x ns areas from to) (sym e) (below_all s)
+below_known {f} {ns} {areas} {from} {to} s (Some k) p h e = subst (λ (x : Heights). Below x ns areas from to) (sym e) (p k refl).below
 
 -- what is kept of a tier, by its worth and the first of its highest sales
 abbrev pub kept_where : List Bool → Bool → ℕ → Peak → Kept
 kept_where short second worth peak =
     record {
-      known = true;
-      pvb = get_or short 0 false;
-      tvb = get_or short 1 false;
-      avb = get_or short 2 false;
+      short = short;
       second = second;
       worth = worth;
       mwh = peak.mwh;
@@ -268,22 +252,28 @@ module _ (f : Prices) (range : InRange f) (k : Kept) {short : List Bool} {asked 
 
 -- ---- chosen or not
 
-module _ {f : Prices} {short : List Bool} {asked : ℕ} {ns areas cs₀ cs : List ℕ} {from to : ℕ} {c : Choice} where
+module _ (f : Prices) (short : List Bool) (asked : ℕ) {ns areas cs₀ cs : List ℕ} {from to : ℕ} where
   -- nothing is filled in
-  pub chosen_none : from ≤ c.kept.place → c.kept.place ≤ to → c.fits ≡ false → c.end ≡ c.kept.place → NoneCut cs → Chosen f short asked ns areas from to cs₀ cs c
-  chosen_none h l e g none =
+  pub chosen_none : {place : ℕ} → from ≤ place → place ≤ to → NoneCut cs → Chosen f short asked ns areas from to cs₀ cs (Partial place place)
+  chosen_none h l none =
       record {
         room = none.room;
         starts = h;
         rises = omega arith;
-        ends = omega arith;
+        ends = l;
         before = λ i m. none.none i;
         behind = λ i m. none.none i;
-        fitting = λ t. absurd (never (sym e ∙ t));
+        fitting = tt;
       }
 
-  -- the highest sales have their cuts
-  pub chosen_cut : KeptFor f c.kept ns areas from to → PeakCuts (tier_rates f c.kept) ns areas asked c.kept.mwh c.kept.place to cs c.end c.lost
-      → (c.fits ≡ true → Fits f short asked ns areas from to cs₀ cs c.kept c.end c.lost) → Chosen f short asked ns areas from to cs₀ cs c
-  chosen_cut p q e =
-      record { room = q.room; starts = p.peaked.starts; rises = q.starts; ends = q.ends; before = q.before; behind = q.behind; fitting = e }
+  -- the highest sales have their cuts, which are too few
+  pub chosen_part : {k : Kept} {end lost : ℕ} → KeptFor f k ns areas from to → PeakCuts (tier_rates f k) ns areas asked k.mwh k.place to cs end lost
+      → Chosen f short asked ns areas from to cs₀ cs (Partial k.place end)
+  chosen_part p q =
+      record { room = q.room; starts = p.peaked.starts; rises = q.starts; ends = q.ends; before = q.before; behind = q.behind; fitting = tt }
+
+  -- or all of the reduction
+  pub chosen_cut : {k : Kept} {sweep : Sweep} → Fits f short asked ns areas from to cs₀ cs k sweep.end sweep.lost → PeakCuts (tier_rates f k) ns areas asked k.mwh k.place to cs sweep.end sweep.lost
+      → Chosen f short asked ns areas from to cs₀ cs (Filled k sweep)
+  chosen_cut p q =
+      record { room = q.room; starts = p.kept.peaked.starts; rises = q.starts; ends = q.ends; before = q.before; behind = q.behind; fitting = p }

@@ -8,6 +8,7 @@ use Rattle.rules.specs.Areas.{Prices}
 use Rattle.rules.specs.Shares.{tier_worth}
 use Rattle.cut_peaks.specs.Peaks.{Peaked, amount_at_place, tier_of}
 use Rattle.cut_peaks.specs.declared.Choice.{Choice}
+use Rattle.cut_peaks.specs.declared.Choice.TheVariants.{Filled, Partial}
 use Rattle.cut_peaks.specs.declared.Heights.{Heights}
 use Rattle.cut_peaks.specs.declared.Kept.{Kept}
 
@@ -39,7 +40,7 @@ lowered_to h rates most =
 
 -- the seller's position is negative in the area
 abbrev pub short_of : Kept → ℕ → Bool
-short_of k = short_by (k.pvb ∷ k.tvb ∷ k.avb ∷ [])
+short_of k = short_by k.short
 
 -- the rates of the tier that its sales lose from
 unfoldable pub tier_rates : Prices → Kept → List ℕ
@@ -48,7 +49,7 @@ tier_rates f k = rates_for f (tier_of k.second (short_of k))
 -- what is kept after cuts that are worth some amount, up to the next of the highest sales
 abbrev pub swept_to : Kept → ℕ → ℕ → Kept
 swept_to k end lost =
-    record { known = k.known; pvb = k.pvb; tvb = k.tvb; avb = k.avb; second = k.second; worth = k.worth - lost; mwh = k.mwh; place = end; heights = k.heights }
+    record { short = k.short; second = k.second; worth = k.worth - lost; mwh = k.mwh; place = end; heights = k.heights }
 
 -- the same areas as an array says
 pub record SameShort (k : Kept) (short : List Bool) : Type 0 where
@@ -70,12 +71,26 @@ pub record Fits (f : Prices) (short : List Bool) (asked : ℕ) (ns areas : List 
   pub gone : (i : ℕ) → k.place ≤ i → i < end → amount_at_place (tier_rates f k) ns areas i < k.mwh + get_or cs i 0
   pub here : end < to → k.mwh ≤ amount_at_place (tier_rates f k) ns areas end
 
+-- the places that the cuts filled in lie between
+abbrev pub first_of : Choice → ℕ
+first_of (Filled kept sweep) = kept.place
+first_of (Partial first end) = first
+
+abbrev pub end_of : Choice → ℕ
+end_of (Filled kept sweep) = sweep.end
+end_of (Partial first end) = end
+
+-- they are all of the reduction where they are said to be
+abbrev pub FitsIn : Prices → List Bool → ℕ → List ℕ → List ℕ → ℕ → ℕ → List ℕ → List ℕ → Choice → Type 0
+FitsIn f short asked ns areas from to cs₀ cs (Filled kept sweep) = Fits f short asked ns areas from to cs₀ cs kept sweep.end sweep.lost
+FitsIn f short asked ns areas from to cs₀ cs (Partial first end) = Unit {0}
+
 -- cuts are filled in between the kept place and an end, all of the reduction where they fit
 pub record Chosen (f : Prices) (short : List Bool) (asked : ℕ) (ns areas : List ℕ) (from to : ℕ) (cs₀ cs : List ℕ) (c : Choice) : Type 0 where
   pub room : length cs ≡ 256
-  pub starts : from ≤ c.kept.place
-  pub rises : c.kept.place ≤ c.end
-  pub ends : c.end ≤ to
-  pub before : (i : ℕ) → i < c.kept.place → get_or cs i 0 ≡ 0
-  pub behind : (i : ℕ) → c.end ≤ i → get_or cs i 0 ≡ 0
-  pub fitting : c.fits ≡ true → Fits f short asked ns areas from to cs₀ cs c.kept c.end c.lost
+  pub starts : from ≤ first_of c
+  pub rises : first_of c ≤ end_of c
+  pub ends : end_of c ≤ to
+  pub before : (i : ℕ) → i < first_of c → get_or cs i 0 ≡ 0
+  pub behind : (i : ℕ) → end_of c ≤ i → get_or cs i 0 ≡ 0
+  pub fitting : FitsIn f short asked ns areas from to cs₀ cs c

@@ -15,43 +15,30 @@ fn heights_of(standing: &[u64; 256], areas: &[u8; 256], from: usize, to: usize) 
     let pvb = crate::highest(standing, areas, &[1, 0, 0], from, to);
     let tvb = crate::highest(standing, areas, &[0, 1, 0], from, to);
     let avb = crate::highest(standing, areas, &[0, 0, 1], from, to);
-    Heights {
-        pvb: pvb,
-        tvb: tvb,
-        avb: avb,
-    }
+    Heights { pvb, tvb, avb }
 }
 
 // An amount of an area with a rate: 0 where it does not belong to the tier.
 fn in_tier(mwh: u64, rate: u64) -> u64
     ensures { result ≡ cond (ltb 0 rate) mwh 0 }
 {
-    if rate == 0 {
-        return 0;
-    }
-    mwh
+    if rate == 0 { 0 } else { mwh }
 }
 
 // An amount that no sale of the tier stands above, at least 1.
 fn tier_height(heights: Heights, rates: &[u64; 3]) -> u64
     ensures { result ≡ height_of_tier heights rates.now }
 {
-    let one = crate::larger(1, in_tier(heights.pvb, rates[0]));
-    let two = crate::larger(one, in_tier(heights.tvb, rates[1]));
-    crate::larger(two, in_tier(heights.avb, rates[2]))
+    let one = in_tier(heights.pvb, rates[0]).max(1);
+    let two = one.max(in_tier(heights.tvb, rates[1]));
+    two.max(in_tier(heights.avb, rates[2]))
 }
 
 // The lesser of two amounts where an area has a rate; else the first.
 fn lowered_at(mwh: u64, rate: u64, most: u64) -> u64
     ensures { result ≡ cond (ltb 0 rate) (min mwh most) mwh }
 {
-    if rate == 0 {
-        return mwh;
-    }
-    if mwh < most {
-        return mwh;
-    }
-    most
+    if rate == 0 { mwh } else { mwh.min(most) }
 }
 
 // Heights of which those of a tier's areas are at most an amount.
@@ -79,30 +66,28 @@ pub fn first_peak(
     ensures { Peaked rates.now standing.now areas.now from to result.place result.mwh × Below result.heights standing.now areas.now from to }
 {
     let height = tier_height(heights, rates);
-    let first = crate::next_peak(standing, areas, rates, height, from, to);
-    if first < to {
+    if let Some(place) = crate::next_peak(standing, areas, rates, height, from, to) {
         return Peak {
             mwh: height,
-            place: first,
-            heights: heights,
+            place,
+            heights,
         };
     }
     let lower = lowered(heights, rates, height - 1);
     let below = tier_height(lower, rates);
-    let second = crate::next_peak(standing, areas, rates, below, from, to);
-    if second < to {
+    if let Some(place) = crate::next_peak(standing, areas, rates, below, from, to) {
         return Peak {
             mwh: below,
-            place: second,
+            place,
             heights: lower,
         };
     }
     let seen = heights_of(standing, areas, from, to);
     let mwh = tier_height(seen, rates);
-    let place = crate::next_peak(standing, areas, rates, mwh, from, to);
+    let place = crate::next_peak(standing, areas, rates, mwh, from, to).unwrap_or(to);
     Peak {
-        mwh: mwh,
-        place: place,
+        mwh,
+        place,
         heights: seen,
     }
 }

@@ -1,6 +1,7 @@
 -- The count from below: counting down from all trades, the sets left out count up, and what is left of the search gives the whole. Assumes nothing.
-use Rattle.base.specs.Basics.{◌≡◌, refl, ap, sym, subst, ◌∙◌, ◌⊎◌, inl, inr, Bool, true, false, cond, ◌||◌, List, ℕ, zero, suc, ◌+◌, ◌*◌, ◌-◌, ◌^◌}
+use Rattle.base.specs.Basics.{◌≡◌, refl, ap, sym, ◌∙◌, ◌⊎◌, inl, inr, Bool, true, false, cond, ◌||◌, List, ℕ, zero, suc, ◌+◌, ◌*◌, ◌-◌, ◌^◌}
 use Rattle.base.specs.Basics.{◌/◌, ◌%◌, ◌≤◌, ◌<◌, min, arith, eqb, length, get_or, le-leb, lt-leb, le-ltb, lt-ltb, eq-eqb, ne_eqb}
+use Rattle.std.specs.Prelude.{Option, None, Some, MatchOption}
 use Rattle.base.specs.Sums.{sum}
 use mathlib.Core.Bool.{or-true, or-false}
 use Rattle.base.proofs.Linear.{by_order}
@@ -172,51 +173,27 @@ module _ {base until spare : ℕ} {table : List ℕ} {o : Best} where
     going_skip = going_past g z (k - b.made) k (omega (arith, f.on)) f.inside f.none_before
 
     -- which is taken
-    pub going_take : (k ≡ until → ⊥) → {r : Best} → r.left ≡ k → r.out ≡ base + get_or table (k % 256) 0 → r.made ≡ k + 1 → Going base until spare table o r
+    pub going_take : k < until → {r : Best} → r.left ≡ k → r.out ≡ base + get_or table (k % 256) 0 → r.made ≡ k + 1 → Going base until spare table o r
     going_take n {r} e h m =
         let y = better_at f.better in
-        going_more going_skip (below k until f.inside n) z (record { made_more = m; left_is = e ∙ sym (rw y refl); out_is = h ∙ sym (rw y refl) })
+        going_more going_skip n z (record { made_more = m; left_is = e ∙ sym (rw y refl); out_is = h ∙ sym (rw y refl) })
       where
         better_at : (k ≡ until) ⊎ (smaller spare (base + get_or table (k % 256) 0) b.out ≡ true) → smaller spare (base + get_or table (k % 256) 0) b.out ≡ true
-        better_at (inl a) = absurd (n a)
+        better_at (inl a) = absurd (omega (arith, n, a))
         better_at (inr a) = a
-
-        below : (i j : ℕ) → i ≤ j → (i ≡ j → ⊥) → i < j
-        below i j a c = by_order i j (λ l. l) (λ l. absurd (c (omega arith)))
 
   pub going_end : {b : Best} → Going base until spare table o b → (b.out ≡ spare) ⊎ (b.made ≡ until) → Passed base until spare table o b
   going_end g e = record { ended = e; counts = g.counts }
 
 -- ---- the first that is better
 
--- none so far
-pub record NoneBetter (best base until spare : ℕ) (table : List ℕ) (from k : ℕ) : Type 0 where
-  pub on : from ≤ k
-  pub inside : k ≤ until
-  pub none : (j : ℕ) → from ≤ j → j < k → smaller spare (base + get_or table (j % 256) 0) best ≡ false
-
-module _ {best base until spare : ℕ} {table : List ℕ} {from : ℕ} where
-  pub none_first : from ≤ until → NoneBetter best base until spare table from from
-  none_first h = record { on = omega arith; inside = h; none = λ j a b. absurd (omega arith) }
-
-  module _ {k : ℕ} (p : NoneBetter best base until spare table from k) where
-    pub none_more : k < until → {t : Bool} → t ≡ smaller spare (base + get_or table (k % 256) 0) best → t ≡ false → NoneBetter best base until spare table from (k + 1)
-    none_more h e f =
-        record {
-          on = omega (arith, p.on);
-          inside = omega arith;
-          none =
-              λ j a b. by_order j k (λ l. p.none j a l)
-              (λ l.
-              let same : k ≡ j = omega arith in
-              subst (λ (i : ℕ). smaller spare (base + get_or table (i % 256) 0) best ≡ false) same (sym e ∙ f));
-        }
-
-    pub first_found : {t : Bool} → t ≡ smaller spare (base + get_or table (k % 256) 0) best → t ≡ true → FirstBetter best base until spare table from k
-    first_found e f = record { on = p.on; inside = p.inside; none_before = p.none; better = inr (sym e ∙ f) }
-
-    pub first_none : until ≤ k → FirstBetter best base until spare table from k
-    first_none h = record { on = p.on; inside = p.inside; none_before = p.none; better = inl (omega (arith, p.inside)) }
+-- what a search through the numbers finds
+pub first_sought : (best base until spare : ℕ) (table : List ℕ) (from : ℕ) → from ≤ until → (r : Option ℕ)
+    → MatchOption r ((k : ℕ) → from ≤ k → k < until → smaller spare (base + get_or table (k % 256) 0) best ≡ false)
+    (λ i. (from ≤ i) × (i < until) × (smaller spare (base + get_or table (i % 256) 0) best ≡ true) × ((k : ℕ) → from ≤ k → k < i → smaller spare (base + get_or table (k % 256) 0) best ≡ false))
+    → MatchOption r (FirstBetter best base until spare table from until) (λ k. FirstBetter best base until spare table from k × (k < until))
+first_sought best base until spare table from h None none = record { on = h; inside = omega arith; none_before = none; better = inl refl }
+first_sought best base until spare table from h (Some k) f = (record { on = f.0; inside = omega (arith, f.1); none_before = f.3; better = inr f.2 }, f.1)
 
 -- ---- the loop
 

@@ -1,7 +1,9 @@
 -- The worths given: their sums, and the worth of a set bit by bit. Assumes nothing.
-use Rattle.base.specs.Basics.{◌≡◌, ap, ◌∙◌, List, [], ◌∷◌, ℕ, zero, suc, ◌+◌, ◌*◌, ◌-◌, ◌^◌, ◌/◌, ◌≤◌, ◌<◌, arith, length, take, get_or, take-suc}
+use Rattle.base.specs.Basics.{◌≡◌, refl, ap, ◌∙◌, List, [], ◌∷◌, ℕ, zero, suc, ◌+◌, ◌*◌, ◌-◌, ◌^◌, ◌/◌, ◌≤◌, ◌<◌, arith, length, take, get_or, take-suc}
 use Rattle.base.specs.Basics.{length-take-le}
 use Rattle.base.specs.Sums.{sum}
+use Rattle.std.specs.List as std
+use Rattle.std.proofs.lemmas.List.Sums.{sum_by-cons}
 use Rattle.base.proofs.Sums.{sum-take_suc}
 use Rattle.cut_sets.specs.Sets.{worth_of_set, last_worth}
 use Rattle.cut_sets.specs.Found.{Given}
@@ -22,17 +24,28 @@ last_step worths i rest h l =
     ap (λ (ws : List ℕ). worth_of_set ws rest) (take-suc worths i 0 h)
     ∙ worth_snoc (take i worths) (get_or worths i 0) rest (rw long l)
 
+-- the sum of a list is std's
+pub sums_same : (xs : List ℕ) → std.sum xs ≡ sum (λ w. w) xs
+unfolding sum
+sums_same [] = refl
+sums_same (x ∷ xs) = sum_by-cons (λ w. w) x xs ∙ ap (λ (n : ℕ). x + n) (sums_same xs)
+
 module _ {n : ℕ} {worths : List ℕ} (g : Given n worths) where
   -- the first i worths
   pub sum_most : (i : ℕ) → sum (λ w. w) (take i worths) ≤ 10000000000 * i
   sum_most i = firsts_most worths i g.each
 
-  pub sum_next : (i : ℕ) → i < n → sum (λ w. w) (take (i + 1) worths) ≡ sum (λ w. w) (take i worths) + get_or worths i 0
-  sum_next i h = sum-take_suc (λ w. w) worths i 0 (omega (arith, g.few, g.room))
-
   -- the n trades
   pub count_is : length (take n worths) ≡ n
   count_is = length-take-le n worths (omega (arith, g.few, g.room))
+
+  -- their sum, as std writes it
+  pub total_is : {t : ℕ} → t ≡ std.sum (take n worths) → (t ≡ sum (λ w. w) (take n worths)) × (t ≤ 2560000000000)
+  total_is e = let same = sums_same (take n worths) in
+      (omega (arith, e, same), omega (arith, e, same, sum_most n, g.few))
+
+  pub total_fits : std.sum (take n worths) < 2 ^ 64
+  total_fits = omega (arith, (total_is refl).1)
 
   -- no set is worth more than 256 × 10^10
   pub set_most : (m : ℕ) → worth_of_set (take n worths) m ≤ 2560000000000

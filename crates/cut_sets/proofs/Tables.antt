@@ -33,10 +33,3 @@ pub set_inside : (n step count j : ℕ) → count * step < 2 ^ n + step → j < 
 set_inside n step count j h l =
     let most : (j + 1) * step ≤ count * step = mul-le-mul_right step (omega arith) in
     omega (arith, add-mul j 1 step, one-mul step)
-
--- and below 65,536
-pub set_low : (step count j : ℕ) → step ≤ 256 → count ≤ 256 → j < count → j * step ≤ 65536
-set_low step count j h k l =
-    let low : j ≤ 256 = omega arith in
-    let most : j * step ≤ 256 * 256 = mul-le-mul low h in
-    omega arith

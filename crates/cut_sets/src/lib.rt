@@ -5,14 +5,14 @@
 // bits change only with every 256th try.
 #![tactic(auto)]
 
-ghost use Rattle.std.specs.Prelude.{◌≡◌, ◌^◌, ◌≤◌, ◌<◌, min, take};
+ghost use Rattle.std.specs.Prelude.{◌≡◌, ◌^◌, ◌≤◌, ◌<◌, min, take, MatchOption};
 ghost use Rattle.base.specs.Sums.{sum};
 ghost use Rattle.cut_sets.specs.Sets.{worth_of_set, last_worth};
 ghost use Rattle.cut_sets.specs.Found.{Given, Sought, TableRoom, Table, Told, Answered, smaller};
 ghost use Rattle.cut_sets.specs.Counting.{Block, FirstBetter, Passed};
 
 // What a search found: the excess over the target, the tries made, whether it is complete, and the trades left out, as a binary number.
-#[derive(Clone, Copy)]
+#[derive(Clone, Copy, Debug, PartialEq, Eq)]
 pub struct Found {
     pub excess: u64,
     pub tries: u32,
@@ -21,7 +21,7 @@ pub struct Found {
 }
 
 // The first tried set with the smallest excess so far, by the trades that it leaves out, with their worth, and the number of tries made.
-#[derive(Clone, Copy)]
+#[derive(Clone, Copy, Debug, PartialEq, Eq)]
 struct Best {
     left: usize,
     out: u64,
@@ -47,20 +47,14 @@ impl Best {
 fn sets_of(n: usize) -> usize
     ensures { result ≡ min (2 ^ n) 65536 }
 {
-    if 15 < n {
-        return 65536;
-    }
-    1 << n
+    1 << n.min(16)
 }
 
 // The worth of the last trade of a set, by its lowest bit.
 fn last_of(set: usize, worth: u64) -> u64
     ensures { result ≡ last_worth set worth }
 {
-    if set % 2 == 0 {
-        return 0;
-    }
-    worth
+    if set % 2 == 0 { 0 } else { worth }
 }
 
 // The worth of all n trades.
@@ -68,13 +62,7 @@ pub fn total(worths: &[u64; 256], n: usize) -> u64
     requires { Given n worths.now }
     ensures { (result ≡ sum (λ w. w) (take n worths.now)) × (result ≤ 2560000000000) }
 {
-    let mut sum = 0;
-    let mut i = 0;
-    while i < n {
-        sum += worths[i];
-        i += 1;
-    }
-    sum
+    worths[..n].iter().sum()
 }
 
 // The worth of a set of the n trades: from the last trade, bit by bit.
@@ -85,6 +73,7 @@ fn worth_of(worths: &[u64; 256], n: usize, set: usize) -> u64
     let mut sum = 0;
     let mut rest = set;
     let mut i = n;
+    // Ends with the highest bit of the set, not after n trades.
     while 0 < rest {
         i -= 1;
         sum += last_of(rest, worths[i]);
@@ -99,10 +88,8 @@ fn table(worths: &[u64; 256], n: usize, step: usize, count: usize) -> [u64; 256]
     ensures { Table (worth_of_set (take n worths.now)) step count result }
 {
     let mut table = [0; 256];
-    let mut j = 0;
-    while j < count {
+    for j in 0..count {
         table[j] = worth_of(worths, n, j * step);
-        j += 1;
     }
     table
 }
@@ -116,7 +103,7 @@ fn is_better(best: u64, out: u64, spare: u64) -> bool
 }
 
 // The first try from a number on, up to another, whose set reaches the target with a smaller excess than one that leaves out trades of the
-// worth `best`; else the latter. The sets have the same high eight bits, whose trades left out are worth `base`.
+// worth `best`. The sets have the same high eight bits, whose trades left out are worth `base`.
 fn first_better(
     best: u64,
     base: u64,
@@ -124,38 +111,30 @@ fn first_better(
     from: usize,
     until: usize,
     spare: u64,
-) -> usize
+) -> Option<usize>
     requires { Block base until low.now from }
-    ensures { FirstBetter best base until spare low.now from result }
+    ensures { MatchOption result (FirstBetter best base until spare low.now from until)
+        (λ k. FirstBetter best base until spare low.now from k × (k < until)) }
 {
-    let mut k = from;
-    while k < until {
-        if is_better(best, base + low[k % 256], spare) {
-            return k;
-        }
-        k += 1;
-    }
-    k
+    (from..until).find(|&k| is_better(best, base + low[k % 256], spare))
 }
 
 // Tries the sets up to a number, all of the same high eight bits, whose trades left out are worth `base`, until an excess of 0 is met.
-fn through(best: Best, base: u64, low: &[u64; 256], until: usize, spare: u64) -> Best
+fn through(mut best: Best, base: u64, low: &[u64; 256], until: usize, spare: u64) -> Best
     requires { Block base until low.now best.made }
     ensures { Passed base until spare low.now best result }
 {
-    let mut best = best;
+    // From one better set to the next: no count.
     while best.made < until {
         if best.out == spare {
             return best;
         }
-        let k = first_better(best.out, base, low, best.made, until, spare);
-        if k == until {
+        let Some(k) = first_better(best.out, base, low, best.made, until, spare) else {
             return Best {
-                left: best.left,
-                out: best.out,
-                made: k,
+                made: until,
+                ..best
             };
-        }
+        };
         best = Best {
             left: k,
             out: base + low[k % 256],
@@ -172,23 +151,17 @@ pub fn search(worths: &[u64; 256], n: usize, together: u64, asked: u64, tries: u
 {
     let spare = together - asked;
     let sets = sets_of(n);
-    let limit = indices::lesser(tries, sets);
-    let low = table(worths, n, 1, indices::lesser(limit, 256));
-    let high = table(worths, n, 256, (limit + 255) / 256);
+    let limit = tries.min(sets);
+    let low = table(worths, n, 1, limit.min(256));
+    let blocks = (limit + 255) / 256;
+    let high = table(worths, n, 256, blocks);
     let mut best = Best {
         left: 0,
         out: 0,
         made: 1,
     };
-    while best.made < limit {
-        let h = best.made / 256;
-        best = through(
-            best,
-            high[h],
-            &low,
-            indices::lesser(256 * h + 256, limit),
-            spare,
-        );
+    for h in 0..blocks {
+        best = through(best, high[h], &low, (256 * h + 256).min(limit), spare);
         if best.out == spare {
             return best.found(spare, sets);
         }

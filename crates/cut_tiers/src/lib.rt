@@ -24,10 +24,10 @@ fn rate_in(area: u8, belongs: bool, prices: Prices) -> u64
     ensures { result ≡ cond belongs (tariff (as_prices prices) area) 0 }
 {
     if belongs {
-        let price = Area(area).tariff(prices);
-        return price.0 as u64;
+        u64::from(Area(area).tariff(prices).0)
+    } else {
+        0
     }
-    0
 }
 
 // The rate of each area in a tier, by whether the area belongs to it.
@@ -35,10 +35,11 @@ pub fn rates_of(pvb: bool, tvb: bool, avb: bool, prices: Prices) -> [u64; 3]
     requires { InRange (as_prices prices) }
     ensures { (belongs : ℕ → Bool) → pvb ≡ belongs 0 → tvb ≡ belongs 1 → avb ≡ belongs 2 → result ≡ rates_for (as_prices prices) belongs }
 {
-    let p = rate_in(Area::PVB, pvb, prices);
-    let t = rate_in(Area::TVB, tvb, prices);
-    let a = rate_in(Area::AVB, avb, prices);
-    [p, t, a]
+    [
+        rate_in(Area::PVB, pvb, prices),
+        rate_in(Area::TVB, tvb, prices),
+        rate_in(Area::AVB, avb, prices),
+    ]
 }
 
 // Fills in what each sale loses where the seller is reduced for an amount; `short` says in which areas its position is negative. Tier one
@@ -60,9 +61,7 @@ pub fn fill_cuts(
         (cuts_of (as_prices prices) (short_by short.now) asked.0 (part from to standing.now) (part from to areas.now)) }
     ensures rests_len { length rests.new ≡ 256 }
 {
-    let pvb = short[0];
-    let tvb = short[1];
-    let avb = short[2];
+    let [pvb, tvb, avb] = *short;
     let one = rates_of(pvb, tvb, avb, prices);
     let worth = cut_worth::worth_of(standing, areas, &one, from, to);
     cut_shares::tier_cuts(standing, areas, &one, asked, worth, from, to, cuts, rests);
@@ -93,9 +92,10 @@ pub fn tally_with(tally: Tally, cut: u64, area: u8, prices: Prices) -> Tally
     ensures mwh_bound { (result.mwh.0 ≤ tally.mwh.0 + 100000) × (result.worth.0 ≤ tally.worth.0 + 10000000000) }
 {
     if cut == 0 {
-        return tally;
+        tally
+    } else {
+        tally.with(Energy(cut), Area(area).tariff(prices))
     }
-    tally.with(Energy(cut), Area(area).tariff(prices))
 }
 
 // Takes a cut off what stands at a place.
@@ -103,8 +103,8 @@ pub fn lower_sale(standing: &mut [u64; 256], place: usize, cut: u64)
     requires { (place < 256) × (cut ≤ get_or standing.old place 0) }
     ensures { standing.new ≡ set standing.old place (get_or standing.old place 0 - cut) }
 {
-    if cut == 0 {
-        return;
+    // Most sales lose nothing, and are not written.
+    if 0 < cut {
+        standing[place] -= cut;
     }
-    standing[place] -= cut;
 }

@@ -26,7 +26,8 @@ pub fn rate_at(areas: &[u8; 256], rates: &[u64; 3], i: usize) -> u64
     rates[areas[i] as usize]
 }
 
-// The worth of the sales from..to in the tier: the first one's standing × t plus the worth of the rest.
+// The worth of the sales from..to in the tier: the first one's standing × t plus the worth of the rest. Recursive like its definition
+// (`tier_worth`): the documents print this form.
 fn worth_from(
     standing: &[u64; 256],
     areas: &[u8; 256],
@@ -89,10 +90,8 @@ impl Tally {
         ensures mwh_bound_2 { (result.mwh.0 ≤ self.mwh.0 + 100000) × (result.worth.0 ≤ self.worth.0 + 10000000000) }
     {
         let added = price.worth(cut);
-        let mwh = self.mwh.plus(cut);
-        let worth = self.worth.plus(added);
-        self.mwh = mwh;
-        self.worth = worth;
+        self.mwh = self.mwh.plus(cut);
+        self.worth = self.worth.plus(added);
         self
     }
 }
@@ -125,11 +124,9 @@ impl Totals {
         requires mwh_bound { (tally.mwh.0 ≤ 25600000) × (tally.worth.0 ≤ 2560000000000) }
         ensures { totals result ≡ answer_of_run (self.reductions + 1) (self.mwh.0 + tally.mwh.0) (self.worth.0 + tally.worth.0) }
     {
-        let mwh = self.mwh.plus(tally.mwh);
-        let worth = self.worth.plus(tally.worth);
-        self.reductions = self.reductions + 1;
-        self.mwh = mwh;
-        self.worth = worth;
+        self.reductions += 1;
+        self.mwh = self.mwh.plus(tally.mwh);
+        self.worth = self.worth.plus(tally.worth);
         self
     }
 }

@@ -12,41 +12,26 @@ use units::{Energy, Mwh};
 pub fn left_of(cuts: &[u64], i: usize, standing: u32) -> u32
     ensures { result ≡ standing - get_or cuts.now i 0 }
 {
-    if i < cuts.len() {
-        let cut = cuts[i];
-        return Mwh(standing).less(Energy(cut)).0;
+    match cuts.get(i) {
+        Some(cut) => Mwh(standing).less(Energy(*cut)).0,
+        None => standing,
     }
-    standing
 }
 
-// Each trade of the list is lowered by its own cut, where it is; trades past the cuts stay as they are, so the loop ends with the shorter
-// list.
+// Each trade of the list is lowered by its own cut, where it is; trades past the cuts stay as they are. The index serves `left_of`, the
+// core on numbers.
 pub fn lower_all(trades: &mut [Trade], cuts: &[u64])
     ensures { LoweredBy cuts.now trades.old trades.new }
 {
-    let mut i = 0;
-    while (i < trades.len()) & (i < cuts.len()) {
-        let standing = trades[i].standing.0;
-        let left = left_of(cuts, i, standing);
-        trades[i].standing.0 = left;
-        i += 1;
+    for i in 0..trades.len().min(cuts.len()) {
+        trades[i].standing.0 = left_of(cuts, i, trades[i].standing.0);
     }
 }
 
 // An array of trades by value is lent to `lower_all`.
-pub fn cut_all(trades: [Trade; 256], cuts: &[u64]) -> [Trade; 256]
-    ensures { LoweredBy cuts.now trades result }
+pub fn cut_all<const N: usize>(mut trades: [Trade; N], cuts: &[u64]) -> [Trade; N]
+    ensures { LoweredBy cuts.now trades.entry result }
 {
-    let mut lowered = trades;
-    lower_all(&mut lowered, cuts);
-    lowered
-}
-
-// The same of a short array.
-pub fn cut_few(trades: [Trade; 32], cuts: &[u64]) -> [Trade; 32]
-    ensures { LoweredBy cuts.now trades result }
-{
-    let mut lowered = trades;
-    lower_all(&mut lowered, cuts);
-    lowered
+    lower_all(&mut trades, cuts);
+    trades
 }

@@ -20,7 +20,7 @@ pub fn raise(blocked: Cents, level: Cents) -> Raised
     let added = level.less(blocked);
     Raised {
         blocked: blocked.plus(added),
-        added: added,
+        added,
     }
 }
 
@@ -28,8 +28,7 @@ pub fn raise(blocked: Cents, level: Cents) -> Raised
 pub fn block(user: &mut User, level: Cents) -> Cents
     ensures { BlockedTo level.0 user.old user.new result }
 {
-    let blocked = user.blocked;
-    let next = raise(blocked, level);
+    let next = raise(user.blocked, level);
     user.blocked = next.blocked;
     next.added
 }
@@ -42,13 +41,9 @@ pub struct Blocking {
 }
 
 // A record by value is lent to `block`.
-pub fn blocked_user(user: User, level: Cents) -> Blocking
+pub fn blocked_user(mut user: User, level: Cents) -> Blocking
     ensures { BlockedTo level.0 user result.user result.added }
 {
-    let mut lent = user;
-    let added = block(&mut lent, level);
-    Blocking {
-        user: lent,
-        added: added,
-    }
+    let added = block(&mut user, level);
+    Blocking { user, added }
 }

@@ -1,5 +1,5 @@
 -- A table of who bears whose risk gives the book that bytes hold as its risk is borne: its trades, and the sums over its users. Assumes nothing.
-use Rattle.base.specs.Basics.{◌≡◌, refl, sym, ap, ap₂, subst, ◌∙◌, Bool, cond, List, [], ◌∷◌, ℕ, zero, suc, ◌+◌, ◌≤◌, ◌<◌, not-suc-le-zero}
+use Rattle.base.specs.Basics.{◌≡◌, refl, sym, ap, ap₂, subst, ◌∙◌, Bool, cond, List, [], ◌∷◌, ℕ, zero, suc, ◌≤◌, ◌<◌, not-suc-le-zero}
 use Rattle.base.specs.Basics.{le_of_suc-le-suc, arith, T, eqb, eqb→eq, ℤ, pos, ◌+ℤ◌, +ℤ_assoc, +ℤ_idl, +ℤ_idr, length, take, get_or, take_all, eq-eqb}
 use Rattle.base.proofs.Fronts.{all_at}
 use Rattle.base.proofs.Tests.{eqb_of, or_l, or_r}

@@ -1,8 +1,8 @@
 -- Amounts are added one after the other to those of who bears the risk. Assumes nothing.
 use Rattle.base.specs.Basics.{◌≡◌, refl, sym, ap, ap₂, ◌∙◌, Bool, false, cond, List, ℕ, suc, ◌+◌, ◌*◌, ◌-◌, ◌≤◌, ◌<◌, ◌^◌, add-one, arith, eqb, ltb}
-use Rattle.base.specs.Basics.{ℤ, pos, ◌+ℤ◌, +ℤ_idr, length, get_or, set, length-set, get_or-set_same, get_or-set_other, eq-eqb, le-ltb, lt-ltb, ne_eqb}
+use Rattle.base.specs.Basics.{ℤ, pos, ◌+ℤ◌, +ℤ_idr, get_or, set, length-set, get_or-set_same, get_or-set_other, eq-eqb, le-ltb, lt-ltb, ne_eqb}
 use Rattle.base.proofs.Linear.{by_order, parts_add}
-use Rattle.base.proofs.Stores.{here_or_apart, set_front}
+use Rattle.base.proofs.Stores.{here_or_apart}
 use Rattle.units.proofs.Amounts.{net-eq, net-zero, parts_net}
 use Rattle.units.specs.Amounts.{net}
 use Rattle.risk_bearers.specs.Bearers.{bearer_in}
@@ -162,13 +162,3 @@ next_borne {n} {k} b h area l =
       low = b.low (3 * k + area) (omega arith);
       high = b.high (3 * k + area) (omega arith);
     }
-
--- ---- cleared place by place
-
-pub record ClearedTo (i : ℕ) (rows : List ℕ) : Type 0 where
-  pub room : length rows ≡ 192
-  pub each : (j : ℕ) → j < i → get_or rows j 0 ≡ 2 ^ 31
-
-pub cleared_more : {i : ℕ} {rows : List ℕ} → i < 192 → ClearedTo i rows → ClearedTo (i + 1) (set rows i (2 ^ 31))
-cleared_more {i} {rows} h c =
-    record { room = length-set rows i (2 ^ 31) ∙ c.room; each = set_front (λ j n. n ≡ 2 ^ 31) rows i (2 ^ 31) 0 (omega (arith, c.room)) refl c.each }

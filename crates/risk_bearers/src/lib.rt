@@ -18,8 +18,7 @@ pub fn bearer_of(bearers: &[u8; 192], place: u8, area: u8) -> u8
     requires { (place < 64) × (area < 3) }
     ensures { result ≡ bearer_in bearers.now place area }
 {
-    let k = 3 * (place as usize) + area as usize;
-    bearers[k]
+    bearers[3 * place as usize + area as usize]
 }
 
 // Lists the places of those who bear the risk of the sellers and of the buyers of the m trades of a book, which begin at `at`, and sums
@@ -40,8 +39,7 @@ pub fn bear_trades(
     ensures summed_at { (rs : List Trade) → AllBorne (ids_of (users_of book.now)) bearers.now (trades_of book.now) rs → SummedAt (users_of book.now) rs bearing_sellers.new bearing_buyers.new sums.new }
     ensures low { Low sums.new }
 {
-    let mut i = 0;
-    while i < m {
+    for i in 0..m {
         let t = book_format::trade_at(book, at, i);
         let seller = bearer_of(bearers, sellers[i], t.area);
         let buyer = bearer_of(bearers, buyers[i], t.area);
@@ -49,7 +47,6 @@ pub fn bear_trades(
         bearing_buyers[i] = buyer;
         book_sums::add_trade(sums, indices::index(seller), 0, t);
         book_sums::add_trade(sums, indices::index(buyer), 1, t);
-        i += 1;
     }
 }
 
@@ -60,8 +57,7 @@ fn add_amount(rows: &mut [u32; 192], k: usize, amount: u32)
     requires { (k < 192) × (2 ^ 31 ≤ get_or rows.old k 0 + amount) × (get_or rows.old k 0 + amount < 2 ^ 32 + 2 ^ 31) }
     ensures { rows.new ≡ set rows.old k (get_or rows.old k 0 + amount - 2 ^ 31) }
 {
-    let x = rows[k];
-    rows[k] = (x as u64 + amount as u64 - 2147483648) as u32;
+    rows[k] = (rows[k] as u64 + amount as u64 - 2147483648) as u32;
 }
 
 // Adds the amount of the user at place i in an area to that of who bears its risk there.
@@ -79,11 +75,7 @@ fn clear_amounts(rows: &mut [u32; 192])
     requires { length rows.old ≡ 192 }
     ensures { Cleared rows.new }
 {
-    let mut i = 0;
-    while i < 192 {
-        rows[i] = 2147483648;
-        i += 1;
-    }
+    rows.fill(2147483648);
 }
 
 // Sums the amounts of n users in each area over those whose risk each bears.
@@ -92,12 +84,10 @@ pub fn bear_amounts(own: &[u32; 192], bearers: &[u8; 192], n: usize, rows: &mut 
     ensures { Rows n own.now bearers.now rows.new }
 {
     clear_amounts(rows);
-    let mut i = 0;
-    while i < n {
-        bear_amount(own, bearers, rows, i, 0);
-        bear_amount(own, bearers, rows, i, 1);
-        bear_amount(own, bearers, rows, i, 2);
-        i += 1;
+    for i in 0..n {
+        for area in 0..3 {
+            bear_amount(own, bearers, rows, i, area);
+        }
     }
 }
 
@@ -108,10 +98,8 @@ fn fill_ids(book: &[u8], n: usize, ids: &mut [u32; 64])
     requires { Accepted book.now × (n ≡ count_of_users book.now) × (ids.old ≡ replicate 64 4294967295) }
     ensures { IdsOf (users_of book.now) n ids.new }
 {
-    let mut i = 0;
-    while i < n {
+    for i in 0..n {
         ids[i] = fields::get_u32(book, book_format::user_offset(book, i));
-        i += 1;
     }
 }
 
@@ -127,7 +115,7 @@ fn bearer_at(book: &[u8], ids: &[u32; 64], n: usize, i: usize, area: usize) -> u
     if id == 0 {
         return i as u8;
     }
-    book_parties::place_of(ids, n, id) as u8
+    book_parties::place_of(ids, n, id).unwrap_or(n) as u8
 }
 
 // Fills in the place of who bears each user's risk in each area, of a book of n users in a version with managers.
@@ -137,12 +125,10 @@ pub fn fill_bearers(book: &[u8], n: usize, bearers: &mut [u8; 192])
 {
     let mut ids = [0xffff_ffffu32; 64];
     fill_ids(book, n, &mut ids);
-    let mut i = 0;
-    while i < n {
+    for i in 0..n {
         let k = 3 * i;
         bearers[k] = bearer_at(book, &ids, n, i, 0);
         bearers[k + 1] = bearer_at(book, &ids, n, i, 1);
         bearers[k + 2] = bearer_at(book, &ids, n, i, 2);
-        i += 1;
     }
 }

@@ -30,13 +30,11 @@ impl Holding {
         ensures result_value { result.0 ≡ pos_part (need_of_morning (as_holding self)) }
         ensures result_bound { result.0 ≤ 2 ^ 42 }
     {
-        let physical = self.physical;
-        let short = physical.short();
-        let long = physical.long();
-        let sold = self.sold;
-        let bought = self.bought;
-        let out = short.plus(sold.plus(self.sold_next));
-        let covered = long.plus(bought.plus(self.bought_next));
+        let out = self.physical.short().plus(self.sold.plus(self.sold_next));
+        let covered = self
+            .physical
+            .long()
+            .plus(self.bought.plus(self.bought_next));
         out.less(covered)
     }
 
@@ -45,11 +43,11 @@ impl Holding {
         ensures result_value { result.0 ≡ stock area (as_holding self) }
         ensures result_bound { result.0 < 2 ^ 31 }
     {
-        let position = self.position;
         if area == Area::PVB {
-            return Energy(0);
+            Energy(0)
+        } else {
+            self.position.long()
         }
-        position.long()
     }
 
     // The afternoon's need in an area, for d+1, and never below 0.
@@ -58,9 +56,7 @@ impl Holding {
         ensures result_value { result.0 ≡ pos_part (need_of_afternoon area (as_holding self)) }
         ensures result_bound { result.0 ≤ 2 ^ 42 }
     {
-        let out = self.sold_next;
-        let bought = self.bought_next;
-        out.less(bought.plus(self.stock(area)))
+        self.sold_next.less(self.bought_next.plus(self.stock(area)))
     }
 }
 
@@ -123,9 +119,6 @@ impl Holdings {
     pub fn positions(self) -> [Net; 3]
         ensures { result ≡ self.pvb.position ∷ self.tvb.position ∷ self.avb.position ∷ [] }
     {
-        let pvb = self.pvb.position;
-        let tvb = self.tvb.position;
-        let avb = self.avb.position;
-        [pvb, tvb, avb]
+        [self.pvb.position, self.tvb.position, self.avb.position]
     }
 }

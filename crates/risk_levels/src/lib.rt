@@ -43,15 +43,13 @@ pub fn floored(limits: Limits, charges: Balance, worth: Cents, credit: Cents) ->
     requires worth_bound { (worth.0 ≤ 1800000 * 2 ^ 42) × (credit.0 ≤ 900000 * 2 ^ 31) }
     ensures { result.0 ≡ floored (as_limits limits) (balance charges +ℤ pos worth.0 -ℤ pos credit.0) }
 {
-    let floor = limits.floor;
-    let owed = charges.owed();
-    let paid = charges.credit();
-    let due = owed.plus(worth);
-    let off = paid.plus(credit);
-    if off.plus(floor).exceeds(due) {
-        return floor;
+    let due = charges.owed().plus(worth);
+    let off = charges.credit().plus(credit);
+    if off.plus(limits.floor).exceeds(due) {
+        limits.floor
+    } else {
+        due.less(off)
     }
-    due.less(off)
 }
 
 // The morning level of a user with these charges and holdings.
@@ -88,12 +86,7 @@ pub fn afternoon_level(
 fn lower(a: Price, b: Price) -> Price
     ensures { result.0 ≡ min a.0 b.0 }
 {
-    let x = a.0;
-    let y = b.0;
-    if x < y {
-        return Price(x);
-    }
-    Price(y)
+    Price(a.0.min(b.0))
 }
 
 // The least reference price of the three areas.
@@ -113,8 +106,7 @@ pub fn flagged(limits: Limits, prices: Prices, blocked: Cents, positions: [Net; 
     requires { LimitsInRange (as_limits limits) × InRange (as_prices prices) × (blocked.0 ≤ 1000000000000) }
     ensures { (u : User) → blocked.0 ≡ u.blocked → result ≡ flagged_from (as_limits limits) (as_prices prices) u (positioned positions) }
 {
-    let energy = limits.flag_mwh;
-    let allowed = least_reference_price(prices).worth(energy);
+    let allowed = least_reference_price(prices).worth(limits.flag_mwh);
     let short = exposure(prices, positions);
     short.exceeds(allowed.plus(blocked))
 }
@@ -130,10 +122,7 @@ pub fn called_in(
     requires { LimitsInRange (as_limits limits) × InRange (as_prices prices) × (blocked.0 ≤ 1000000000000) }
     ensures { (u : User) → blocked.0 ≡ u.blocked → result ≡ flagged_from (as_limits limits) (as_prices prices) u (positioned positions) || below_notified }
 {
-    if below_notified {
-        return true;
-    }
-    flagged(limits, prices, blocked, positions)
+    below_notified || flagged(limits, prices, blocked, positions)
 }
 
 // Does a level exceed the blocked guarantee by more than the margin? For every user with this blocked guarantee.
@@ -141,6 +130,5 @@ pub fn exceeds_margin(limits: Limits, level: Cents, blocked: Cents) -> bool
     requires { LimitsInRange (as_limits limits) × (blocked.0 ≤ 1000000000000) }
     ensures { (u : User) → blocked.0 ≡ u.blocked → result ≡ exceeds_its_margin (as_limits limits) level.0 u }
 {
-    let margin = limits.margin;
-    level.exceeds(margin.plus(blocked))
+    level.exceeds(limits.margin.plus(blocked))
 }

@@ -1,11 +1,11 @@
 -- Sums over the first users of those whose risk a user bears in an area. Assumes nothing.
-use Rattle.std.specs.Prelude.{◌≡◌, ◌+◌, ◌*◌, ◌≤◌, ◌<◌, ◌^◌}
-use Rattle.base.specs.Basics.{true, cond, List, ℕ, eqb, pos, get_or, take}
+use Rattle.std.specs.Prelude.{◌≡◌, ◌+◌, ◌*◌, ◌≤◌, ◌^◌}
+use Rattle.base.specs.Basics.{cond, List, ℕ, eqb, pos, take}
 use Rattle.base.specs.Sums.{sum, sum_ℤ}
 use Rattle.book_format.specs.Book.{trades_of, users_of}
 use Rattle.risk_holdings.specs.declared.Holding.{Holding}
 use Rattle.rules.specs.Bearers.{bearer}
-use Rattle.rules.specs.Book.{PerArea, User, at, bought, nobody, sold}
+use Rattle.rules.specs.Book.{PerArea, User, at, bought, sold}
 use Rattle.units.specs.Amounts.{net}
 
 module _ (us : List User) (id area : ℕ) where
@@ -25,13 +25,6 @@ module _ (us : List User) (id area : ℕ) where
   pub record Passed (from to : ℕ) : Type 0 where
     pub sums : (amounts : User → PerArea) (x : ℕ) → SumTo amounts from x → SumTo amounts to x
     pub counts : (amount : User → ℕ) (x : ℕ) → CountTo amount from x → CountTo amount to x
-
-  -- the next place, from one on, of a user whose risk is borne; where there is none, the number of users n
-  pub record Next (n from place : ℕ) : Type 0 where
-    pub rises : from ≤ place
-    pub within : place ≤ n
-    pub passed : Passed from place
-    pub member : place < n → eqb (bearer (get_or us place nobody) area) id ≡ true
 
 -- what the first k users of a book hold in an area
 pub record HeldTo (s : List ℕ) (id area k : ℕ) (h : Holding) : Type 0 where

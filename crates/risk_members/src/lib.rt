@@ -14,7 +14,7 @@ ghost use Rattle.rules.specs.Bearers.{bearer, borne_sum};
 ghost use Rattle.rules.specs.Book.{nobody};
 ghost use Rattle.units.specs.Amounts.{net};
 ghost use Rattle.risk_members.specs.Members.{HoldingsOf};
-ghost use Rattle.risk_members.specs.Sums.{AmountRoom, HeldTo, HoldingRoom, Next, SumTo};
+ghost use Rattle.risk_members.specs.Sums.{AmountRoom, HeldTo, HoldingRoom, SumTo};
 
 use book_records::User;
 use risk_holdings::{Holding, Holdings};
@@ -30,24 +30,10 @@ pub fn bearer_of(book: &[u8], place: usize, area: usize) -> u32
     let at = book_format::user_offset(book, place);
     let id = fields::get_u32(book, at + (book_records::MANAGERS + 4 * area));
     if id == 0 {
-        return fields::get_u32(book, at);
+        fields::get_u32(book, at)
+    } else {
+        id
     }
-    id
-}
-
-// The next place, from one on, of a user whose risk in an area the user of an id bears; n where there is none.
-fn next_member(book: &[u8], n: usize, from: usize, id: u32, area: usize) -> usize
-    requires { Accepted book.now × (managers_in (version_of book.now) ≡ true) × (n ≡ count_of_users book.now) × (from ≤ n) × (area < 3) }
-    ensures { Next (users_of book.now) id area n from result }
-{
-    let mut i = from;
-    while i < n {
-        if bearer_of(book, i, area) == id {
-            return i;
-        }
-        i += 1;
-    }
-    i
 }
 
 // ---- the sums over itself and its members
@@ -57,7 +43,7 @@ fn with_amount(sum: Net, amount: Net) -> Net
     requires { (2 ^ 31 ≤ sum.0 + amount.0) × (sum.0 + amount.0 < 2 ^ 32 + 2 ^ 31) }
     ensures { result.0 ≡ sum.0 + amount.0 - 2 ^ 31 }
 {
-    Net((sum.0 as u64 + amount.0 as u64 - 2147483648) as u32)
+    Net((sum.0 as u64 + amount.0 as u64 - Net::OFFSET as u64) as u32)
 }
 
 // An energy with a number of 32 bits more.
@@ -82,22 +68,20 @@ fn with_member(book: &[u8], sums: &[u32; 768], place: usize, area: usize, held: 
     ensures { (id : ℕ) → eqb (bearer (get_or (users_of book.now) place nobody) area) id ≡ true → HeldTo book.now id area place held → HeldTo book.now id area (place + 1) result }
 {
     let user = book_format::user_at(book, place);
-    let entries = user.physical;
-    let positions = user.position;
-    let physical = with_amount(held.physical, entries[area]);
-    let position = with_amount(held.position, positions[area]);
+    let physical = with_amount(held.physical, user.physical[area]);
+    let position = with_amount(held.position, user.position[area]);
     let k = 12 * place + area;
     let sold = with_sum(sums, k, held.sold);
     let sold_next = with_sum(sums, k + 3, held.sold_next);
     let bought = with_sum(sums, k + 6, held.bought);
     let bought_next = with_sum(sums, k + 9, held.bought_next);
     Holding {
-        physical: physical,
-        position: position,
-        sold: sold,
-        bought: bought,
-        sold_next: sold_next,
-        bought_next: bought_next,
+        physical,
+        position,
+        sold,
+        bought,
+        sold_next,
+        bought_next,
     }
 }
 
@@ -107,17 +91,17 @@ fn held_in(book: &[u8], sums: &[u32; 768], n: usize, id: u32, area: usize) -> Ho
     ensures { HeldTo book.now id area n result }
 {
     let mut held = Holding {
-        physical: Net(2147483648),
-        position: Net(2147483648),
+        physical: Net::ZERO,
+        position: Net::ZERO,
         sold: Energy(0),
         bought: Energy(0),
         sold_next: Energy(0),
         bought_next: Energy(0),
     };
-    let mut i = next_member(book, n, 0, id, area);
-    while i < n {
-        held = with_member(book, sums, i, area, held);
-        i = next_member(book, n, i + 1, id, area);
+    for i in 0..n {
+        if bearer_of(book, i, area) == id {
+            held = with_member(book, sums, i, area, held);
+        }
     }
     held
 }
@@ -131,11 +115,7 @@ fn held_by(book: &[u8], sums: &[u32; 768], place: usize, id: u32) -> Holdings
     let pvb = held_in(book, sums, n, id, 0);
     let tvb = held_in(book, sums, n, id, 1);
     let avb = held_in(book, sums, n, id, 2);
-    Holdings {
-        pvb: pvb,
-        tvb: tvb,
-        avb: avb,
-    }
+    Holdings { pvb, tvb, avb }
 }
 
 // What the user at a place, whose record was read, holds as its risk is borne, given the sums of each user.
@@ -144,11 +124,10 @@ pub fn holdings_of(book: &[u8], sums: &[u32; 768], place: usize, user: User) -> 
     ensures { HoldingsOf book.now place result }
 {
     if book_format::has_managers(book_format::version(book)) {
-        return held_by(book, sums, place, user.id);
+        held_by(book, sums, place, user.id)
+    } else {
+        risk_user::holdings_at(sums, place, user.physical, user.position)
     }
-    let physical = user.physical;
-    let position = user.position;
-    risk_user::holdings_at(sums, place, physical, position)
 }
 
 // ---- positions alone
@@ -159,8 +138,7 @@ fn with_position(book: &[u8], place: usize, area: usize, sum: Net) -> Net
     ensures { (id : ℕ) → eqb (bearer (get_or (users_of book.now) place nobody) area) id ≡ true → SumTo (users_of book.now) id area (λ v. v.position) place sum.0 → SumTo (users_of book.now) id area (λ v. v.position) (place + 1) result.0 }
 {
     let user = book_format::user_at(book, place);
-    let positions = user.position;
-    with_amount(sum, positions[area])
+    with_amount(sum, user.position[area])
 }
 
 // The sum of the positions in an area over those of the n users whose risk the user of an id bears there.
@@ -168,11 +146,11 @@ fn position_in(book: &[u8], n: usize, id: u32, area: usize) -> Net
     requires { Accepted book.now × (managers_in (version_of book.now) ≡ true) × (n ≡ count_of_users book.now) × (area < 3) }
     ensures { net result ≡ borne_sum (λ v. v.position) (users_of book.now) id area }
 {
-    let mut position = Net(2147483648);
-    let mut i = next_member(book, n, 0, id, area);
-    while i < n {
-        position = with_position(book, i, area, position);
-        i = next_member(book, n, i + 1, id, area);
+    let mut position = Net::ZERO;
+    for i in 0..n {
+        if bearer_of(book, i, area) == id {
+            position = with_position(book, i, area, position);
+        }
     }
     position
 }
@@ -195,7 +173,8 @@ pub fn positions_of(book: &[u8], place: usize, user: User) -> [Net; 3]
     ensures { as_amounts result ≡ (get_or (users_in book.now) place nobody).position }
 {
     if book_format::has_managers(book_format::version(book)) {
-        return positions_by(book, place, user.id);
+        positions_by(book, place, user.id)
+    } else {
+        user.position
     }
-    user.position
 }

@@ -1,5 +1,4 @@
--- Trades in bytes walked one after the other, and what an accepted book tells of its users.
-pub mod Walks
+-- What an accepted book tells of its users.
 pub mod Accepted
 -- Laws of what is read of a user and of its state, and that they are the rules'.
 pub mod Money

@@ -18,6 +18,7 @@ ghost use Rattle.risk_user.specs.UserAt.{DayOf, HeldWith, flagged_at, holding_by
 ghost use Rattle.risk_user.specs.States.{state_by, state_of};
 
 use risk_holdings::{Holding, Holdings};
+use std::fmt;
 use units::{Balance, Cents, Energy, Limits, Net, Prices};
 
 // ---- its record
@@ -74,10 +75,11 @@ fn positions_at(positions: &[u32; 192], place: usize) -> [Net; 3]
     ensures { as_amounts result ≡ positions_in positions.now place }
 {
     let k = 3 * place;
-    let pvb = Net(positions[k]);
-    let tvb = Net(positions[k + 1]);
-    let avb = Net(positions[k + 2]);
-    [pvb, tvb, avb]
+    [
+        Net(positions[k]),
+        Net(positions[k + 1]),
+        Net(positions[k + 2]),
+    ]
 }
 
 // A number of 32 bits as an energy.
@@ -115,10 +117,10 @@ fn holding_at(
     Holding {
         physical: physical[area],
         position: position[area],
-        sold: sold,
-        bought: bought,
-        sold_next: sold_next,
-        bought_next: bought_next,
+        sold,
+        bought,
+        sold_next,
+        bought_next,
     }
 }
 
@@ -135,11 +137,7 @@ pub fn holdings_at(
     let pvb = holding_at(sums, place, 0, physical, position);
     let tvb = holding_at(sums, place, 1, physical, position);
     let avb = holding_at(sums, place, 2, physical, position);
-    Holdings {
-        pvb: pvb,
-        tvb: tvb,
-        avb: avb,
-    }
+    Holdings { pvb, tvb, avb }
 }
 
 // ---- level, called in and target
@@ -164,8 +162,7 @@ pub fn level_at(
 {
     let charges = charges_at(book, place);
     let position = positions_at(positions, place);
-    let physical = [Net::ZERO; 3];
-    let holdings = holdings_at(sums, place, physical, position);
+    let holdings = holdings_at(sums, place, [Net::ZERO; 3], position);
     risk_levels::afternoon_level(day.limits, day.prices, charges, holdings)
 }
 
@@ -190,8 +187,7 @@ fn exceeds_margin(book: &[u8], place: usize, level: Cents, day: Day) -> bool
     requires { DayOf (as_limits day.limits) (as_prices day.prices) book.now × UserIn book.now place }
     ensures { result ≡ exceeds_its_margin (as_limits day.limits) level.0 (get_or (users_of book.now) place nobody) }
 {
-    let blocked = blocked_at(book, place);
-    risk_levels::exceeds_margin(day.limits, level, blocked)
+    risk_levels::exceeds_margin(day.limits, level, blocked_at(book, place))
 }
 
 // T where the shipper at a place, of this level and called in, is short of cover; else 0.
@@ -200,10 +196,10 @@ pub fn target_of(book: &[u8], place: usize, level: Cents, day: Day) -> Cents
     ensures { result.0 ≡ target_of (as_limits day.limits) (get_or (users_of book.now) place nobody) level.0 }
 {
     if exceeds_margin(book, place, level, day) {
-        let assigned = assigned_at(book, place);
-        return level.less(assigned);
+        level.less(assigned_at(book, place))
+    } else {
+        Cents(0)
     }
-    Cents(0)
 }
 
 // T where the user at a place, who is called in, is short of cover; else 0.
@@ -227,12 +223,24 @@ pub fn target_at(
 // ---- the state
 
 // What a user is: a clearing house, short of cover, called in with a guarantee that suffices, or none of these.
-#[derive(Clone, Copy)]
+#[derive(Clone, Copy, Debug, PartialEq, Eq)]
 pub enum State {
     Clear,
     Short,
     Call,
     Quiet,
+}
+
+// The word that is printed of a state.
+impl fmt::Display for State {
+    fn fmt<W: fmt::Write>(&self, f: &mut fmt::Formatter<W>) -> fmt::Result {
+        f.write_str(match self {
+            State::Clear => "clear",
+            State::Short => "short",
+            State::Call => "call",
+            State::Quiet => "quiet",
+        })
+    }
 }
 
 // The state of the user at a place, of this level.

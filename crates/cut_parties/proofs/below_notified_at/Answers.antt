@@ -1,36 +1,16 @@
--- `below_notified_at`: what is left to look at has the whole answer, until a trade passes the test or none is left. Assumes nothing.
-use Rattle.base.specs.Basics.{refl, ◌<◌, ◌≤◌, arith}
-use Rattle.book_format.specs.Book.{count_of_trades, count_of_users}
-use Rattle.laws_sales.specs.Parties.{cut_before}
-use Rattle.cut_parties.proofs.Cut.{one_found, one_more, one_none}
+-- `below_notified_at`: some trade of the book passes the test. Assumes nothing.
+use Rattle.std.proofs.Common.{rules, tests}
+use Rattle.std.proofs.lemmas.Iterator.{cases_from_any, YieldsList-from_range}
+use Rattle.base.specs.Basics.{◌≡◌, ◌<◌, Bool, ℕ, true, false, ◌&&◌, ◌||◌, eqb, ltb, refl, arith, get_or}
+use Rattle.book_format.specs.Book.{count_of_users, trades_of}
+use Rattle.rules.specs.Book.{no_trade}
+use Rattle.cut_parties.proofs.Cut.{one_any}
 use Rattle.cut_parties.proofs.below_notified_at.Goals as goal
-
-pub loop-i-init : goal.loop-i-init
-unfolding cut_before
-loop-i-init c = refl
-
-pub trades_offset-at-requires : goal.trades_offset-at-requires
-trades_offset-at-requires c = (c.requires.0.accepted.held.form, c.requires.1)
-
-pub is_below_notified-requires : goal.is_below_notified-requires
-is_below_notified-requires c = record { form = c.requires.0.accepted.held.form; begin = c.trades_offset-at.ensures; inside = omega (arith, c.loop-i-test.true, c.requires.2) }
-
-pub returns-then-is_below_notified : goal.returns-then-is_below_notified
-returns-then-is_below_notified c = let a = c.args in
-    let inside : a.place < count_of_users a.book.now = omega (arith, c.requires.3, c.requires.1) in
-    one_found a.book.now a.bearing_sellers.now a.bearing_buyers.now c.requires.0 a.place inside
-    c.loop-i.invariant (omega (arith, c.loop-i-test.true, c.requires.2))
-    c.is_below_notified.ensures c.if-is_below_notified.true
-
-pub loop-i-preserved : goal.loop-i-preserved
-loop-i-preserved c = let a = c.args in
-    let inside : a.place < count_of_users a.book.now = omega (arith, c.requires.3, c.requires.1) in
-    one_more a.book.now a.bearing_sellers.now a.bearing_buyers.now c.requires.0 a.place inside
-    c.loop-i.invariant (omega (arith, c.loop-i-test.true, c.requires.2))
-    c.is_below_notified.ensures c.if-is_below_notified.false
 
 pub returns : goal.returns
 returns c = let a = c.args in
     let inside : a.place < count_of_users a.book.now = omega (arith, c.requires.3, c.requires.1) in
-    let all : count_of_trades a.book.now ≤ c.loop-i.i = omega (arith, c.loop-i-test.false, c.requires.2) in
-    one_none a.book.now a.bearing_sellers.now a.bearing_buyers.now c.requires.0 a.place inside c.loop-i.invariant all
+    let t = λ (i : ℕ). get_or (trades_of a.book.now) i no_trade in
+    let passes : ℕ → Bool = λ i. (eqb (get_or a.bearing_sellers.now i 0) a.place || eqb (get_or a.bearing_buyers.now i 0) a.place) && ltb (t i).standing (t i).terms.notified in
+    one_any a.book.now a.bearing_sellers.now a.bearing_buyers.now c.requires.0 a.place inside c.any.result c.requires.2
+    (cases_from_any _ _ c.any.result (λ i. passes i ≡ true) (λ i. passes i ≡ false) c.any.ensures.ran (YieldsList-from_range 0 a.m a.m refl (omega arith)) (λ x q k. search (rules, tests)) (λ x q k. search (rules, tests)))

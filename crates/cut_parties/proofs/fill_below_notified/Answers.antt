@@ -8,7 +8,7 @@ use Rattle.cut_parties.proofs.fill_below_notified.Goals as goal
 
 pub loop-i-init : goal.loop-i-init
 loop-i-init c = let a = c.args in
-    (omega arith, cut_start a.book.now c.requires.borne_in.0.accepted.held.form.users c.requires.below_notified_value)
+    cut_start a.book.now c.requires.borne_in.0.accepted.held.form.users c.requires.below_notified_value
 
 pub trades_offset-at-requires : goal.trades_offset-at-requires
 trades_offset-at-requires c = (c.requires.borne_in.0.accepted.held.form, c.requires.borne_in.1)
@@ -55,14 +55,11 @@ bounds-below_notified-buyer-in-loop-i c = let a = c.args in
 pub loop-i-preserved : goal.loop-i-preserved
 unfolding as_trade
 loop-i-preserved c = let a = c.args in
-    let h = c.loop-i-test.true in (
-      omega (arith, h),
-      cut_more a.book.now c.loop-i.invariant.1 a.bearing_sellers.now
-          a.bearing_buyers.now c.requires.borne_in.0 (omega (arith, h, c.requires.borne_in.2)) c.index-seller.ensures.0
-          c.index-buyer.ensures.0 c.trade_at-t.ensures refl,
-    )
+    cut_more a.book.now c.loop-i.invariant a.bearing_sellers.now
+    a.bearing_buyers.now c.requires.borne_in.0 (omega (arith, c.loop-i-test.true, c.requires.borne_in.2)) c.index-seller.ensures.0
+    c.index-buyer.ensures.0 c.trade_at-t.ensures refl
 
 pub returns : goal.returns
 returns c = let a = c.args in
     let all : count_of_trades a.book.now ≤ c.loop-i.i = omega (arith, c.loop-i-test.false, c.requires.borne_in.2) in
-    cut_end a.book.now c.loop-i.invariant.1 all
+    cut_end a.book.now c.loop-i.invariant all

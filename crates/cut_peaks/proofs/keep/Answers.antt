@@ -23,7 +23,7 @@ returns-then-worth-gt0 c = let a = c.args in
     let one = c.rates_of-one.ensures (short_of k) refl refl refl in (
       kept_tier (as_prices a.prices) k (one ∙ rates_first (as_prices a.prices) k refl) worth.ensures.result_value (omega (arith, worth.ensures.result_bound, c.requires.1.inside))
           peak.ensures.0 peak.ensures.1 (λ e. absurd (never e)),
-      same_short refl refl refl,
+      same_short refl,
     )
 
 pub worth_of-other-requires : goal.worth_of-other-requires
@@ -42,5 +42,5 @@ returns c = let a = c.args in
       kept_tier (as_prices a.prices) k (two ∙ rates_second (as_prices a.prices) k refl) worth.ensures.result_value (omega (arith, worth.ensures.result_bound, c.requires.1.inside))
           peak.ensures.0 peak.ensures.1
           (λ e. ap (λ (rs : List ℕ). tier_worth (lots_in rs (part a.from a.to a.standing.now) (part a.from a.to a.areas.now))) (sym one) ∙ omega (arith, first, c.if-worth-gt0.false)),
-      same_short refl refl refl,
+      same_short refl,
     )

@@ -9,6 +9,6 @@ pub returns-then-kept : goal.returns-then-kept
 returns-then-kept c = let a = c.args in
     c.rates_of.ensures (λ area. not (short_of a.kept area)) refl refl refl ∙ rates_second (as_prices a.prices) a.kept c.if-kept.true
 
-pub returns : goal.returns
-returns c = let a = c.args in
-    c.rates_of-2.ensures (short_of a.kept) refl refl refl ∙ rates_first (as_prices a.prices) a.kept c.if-kept.false
+pub returns-else-kept : goal.returns-else-kept
+returns-else-kept c = let a = c.args in
+    c.rates_of-else-kept.ensures (short_of a.kept) refl refl refl ∙ rates_first (as_prices a.prices) a.kept c.if-kept.false

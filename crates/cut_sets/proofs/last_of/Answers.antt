@@ -7,6 +7,6 @@ pub returns-then-set-eq0 : goal.returns-then-set-eq0
 unfolding last_worth
 returns-then-set-eq0 c = rw (eq-eqb _ _ c.if-set-eq0.true)
 
-pub returns : goal.returns
+pub returns-else-set-eq0 : goal.returns-else-set-eq0
 unfolding last_worth
-returns c = rw (ne_eqb _ _ c.if-set-eq0.false)
+returns-else-set-eq0 c = rw (ne_eqb _ _ c.if-set-eq0.false)

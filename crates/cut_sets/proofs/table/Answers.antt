@@ -1,12 +1,8 @@
 -- `table`: the first j places are filled. Assumes nothing.
-use Rattle.base.specs.Basics.{arith, take}
+use Rattle.base.specs.Basics.{take}
 use Rattle.cut_sets.specs.Sets.{worth_of_set}
-use Rattle.cut_sets.proofs.Tables.{filling_first, filling_more, filling_end, set_inside, set_low}
+use Rattle.cut_sets.proofs.Tables.{filling_first, filling_more, filling_end, set_inside}
 use Rattle.cut_sets.proofs.table.Goals as goal
-
-pub overflow_mul-j : goal.overflow_mul-j
-overflow_mul-j c = let a = c.args in
-    record { fits = omega (arith, set_low a.step a.count c.loop-j.j c.requires.small c.requires.room c.loop-j-test.true) }
 
 pub worth_of-requires : goal.worth_of-requires
 worth_of-requires c = let a = c.args in
@@ -22,9 +18,3 @@ returns c = let a = c.args in
 
 pub loop-j-init : goal.loop-j-init
 loop-j-init c = filling_first (worth_of_set (take c.args.n c.args.worths.now)) c.args.step c.args.count
-
-pub offset_bounds-table-j : goal.offset_bounds-table-j
-offset_bounds-table-j c = omega (arith, c.requires.room)
-
-pub bounds-table-j : goal.bounds-table-j
-bounds-table-j c = omega (arith, c.requires.room)

@@ -5,17 +5,6 @@ use Rattle.cut_sets.proofs.Sets.{worth_empty}
 use Rattle.cut_sets.proofs.Given.{bit_step, set_most}
 use Rattle.cut_sets.proofs.worth_of.Goals as goal
 
-pub overflow_sub-i : goal.overflow_sub-i
-overflow_sub-i c = (bit_step c.requires.0 c.loop-rest.i c.loop-rest.rest c.loop-rest.invariant.0 c.loop-rest-test.true c.loop-rest.invariant.1).0
-
-pub bounds-worths-i : goal.bounds-worths-i
-bounds-worths-i c = omega (arith, c.requires.0.few, c.loop-rest.invariant.0, (bit_step c.requires.0 c.loop-rest.i c.loop-rest.rest c.loop-rest.invariant.0 c.loop-rest-test.true c.loop-rest.invariant.1).0)
-
-pub overflow_add-sum : goal.overflow_add-sum
-overflow_add-sum c = let g = c.requires.0 in
-    let step = bit_step g c.loop-rest.i c.loop-rest.rest c.loop-rest.invariant.0 c.loop-rest-test.true c.loop-rest.invariant.1 in
-    record { fits = omega (arith, step.2, c.last_of-sum.ensures, c.loop-rest.invariant.2, set_most g c.args.set) }
-
 pub loop-rest-smaller : goal.loop-rest-smaller
 loop-rest-smaller c = omega (arith, (bit_step c.requires.0 c.loop-rest.i c.loop-rest.rest c.loop-rest.invariant.0 c.loop-rest-test.true c.loop-rest.invariant.1).0)
 
@@ -31,5 +20,7 @@ returns c = let ws = take c.loop-rest.i c.args.worths.now in
 pub loop-rest-init : goal.loop-rest-init
 loop-rest-init c = (omega arith, c.requires.1, omega arith)
 
-pub offset_bounds-worths-i : goal.offset_bounds-worths-i
-offset_bounds-worths-i c = omega (arith, c.requires.0.few, c.loop-rest.invariant.0)
+pub overflow_add-sum : goal.overflow_add-sum
+overflow_add-sum c = let g = c.requires.0 in
+    let step = bit_step g c.loop-rest.i c.loop-rest.rest c.loop-rest.invariant.0 c.loop-rest-test.true c.loop-rest.invariant.1 in
+    record { fits = omega (arith, step.2, c.last_of-sum.ensures, c.loop-rest.invariant.2, set_most g c.args.set) }

@@ -1,8 +1,7 @@
 -- `rates_of`: the rate of each of the three areas. Assumes nothing.
-use Rattle.base.specs.Basics.{rules}
 use Rattle.cut_tiers.specs.Tiers.{rates_for}
 use Rattle.cut_tiers.proofs.rates_of.Goals as goal
 
 pub returns : goal.returns
 unfolding rates_for Rattle.rules.specs.Areas.areas
-returns c belongs p t a = rw (c.rate_in-p.ensures, c.rate_in-t.ensures, c.rate_in-a.ensures, p, t, a)
+returns c belongs p t a = rw (c.rate_in.ensures, c.rate_in-2.ensures, c.rate_in-3.ensures, p, t, a)

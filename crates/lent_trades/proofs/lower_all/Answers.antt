@@ -13,7 +13,7 @@ pub loop-i-preserved : goal.loop-i-preserved
 unfolding blank_trade
 loop-i-preserved c =
     let within : c.loop-i.i < length c.loop-i.trades = grind (arith, common_steps) in
-    rw (add-one, c.left_of-left.ensures) (from_next c.loop-i.i c.args.cuts.now c.loop-i.trades within ∙ c.loop-i.invariant)
+    rw (add-one, c.left_of.ensures) (from_next c.loop-i.i c.args.cuts.now c.loop-i.trades within ∙ c.loop-i.invariant)
 
 pub returns : goal.returns
 returns c =

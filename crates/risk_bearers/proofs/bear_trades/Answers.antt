@@ -9,7 +9,7 @@ use Rattle.risk_bearers.proofs.bear_trades.Goals as goal
 use Rattle.risk_bearers.proofs.bear_trades.Goals.{After-bearer_of-buyer, After-index, After-trade_at-t}
 
 pub loop-i-init : goal.loop-i-init
-loop-i-init c = (omega arith, borne_start c.args.book.now c.args.bearers.now c.requires.bearing_sellers_len.0 c.requires.bearing_sellers_len.1 c.requires.bearing_sellers_len.2)
+loop-i-init c = borne_start c.args.book.now c.args.bearers.now c.requires.bearing_sellers_len.0 c.requires.bearing_sellers_len.1 c.requires.bearing_sellers_len.2
 
 pub trade_at-t-requires : goal.trade_at-t-requires
 trade_at-t-requires c = record { form = c.requires.book_in.0.accepted.held.form; begin = c.requires.book_in.1; inside = omega (arith, c.loop-i-test.true, c.requires.book_in.2) }
@@ -52,29 +52,27 @@ pub add_trade-requires : goal.add_trade-requires
 add_trade-requires c = let a = c.args in
     let e = c.requires.book_in.3 in
     borne_sold a.book.now a.bearers.now a.sellers.now a.buyers.now c.requires.book_in.0 e.bearers (inside (goal.at.add_trade-requires c).After-trade_at-t) e.borne (seller-is c)
-    (buyer-is (goal.at.add_trade-requires c).After-bearer_of-buyer) (c.loop-i.invariant.1.passed e.trades e.borne) c.trade_at-t.ensures
+    (buyer-is (goal.at.add_trade-requires c).After-bearer_of-buyer) (c.loop-i.invariant.passed e.trades e.borne) c.trade_at-t.ensures
 
 pub add_trade-requires-in-loop-i : goal.add_trade-requires-in-loop-i
 add_trade-requires-in-loop-i c = let a = c.args in
     let e = c.requires.book_in.3 in
     borne_bought a.book.now a.bearers.now a.sellers.now a.buyers.now c.requires.book_in.0 e.bearers (inside (goal.at.add_trade-requires-in-loop-i c).After-trade_at-t) e.borne
-    (seller-is (goal.at.add_trade-requires-in-loop-i c).After-index) (c.index-in-loop-i.ensures.0 ∙ buyer-is (goal.at.add_trade-requires-in-loop-i c).After-bearer_of-buyer) (c.loop-i.invariant.1.passed e.trades e.borne)
+    (seller-is (goal.at.add_trade-requires-in-loop-i c).After-index) (c.index-in-loop-i.ensures.0 ∙ buyer-is (goal.at.add_trade-requires-in-loop-i c).After-bearer_of-buyer) (c.loop-i.invariant.passed e.trades e.borne)
     c.trade_at-t.ensures c.add_trade.ensures
 
 pub loop-i-preserved : goal.loop-i-preserved
-loop-i-preserved c = let a = c.args in (
-  omega (arith, c.loop-i-test.true),
-  borne_turn a.book.now a.bearers.now a.sellers.now a.buyers.now c.requires.book_in.0 c.requires.book_in.3.bearers (inside (goal.at.loop-i-preserved c).After-trade_at-t) c.loop-i.invariant.1
-      c.trade_at-t.ensures (sym c.index.ensures.0 ∙ seller-is (goal.at.loop-i-preserved c).After-index) (buyer-is (goal.at.loop-i-preserved c).After-bearer_of-buyer)
-      c.index.ensures.0 c.index-in-loop-i.ensures.0 c.add_trade.ensures c.add_trade-in-loop-i.ensures,
-)
+loop-i-preserved c = let a = c.args in
+    borne_turn a.book.now a.bearers.now a.sellers.now a.buyers.now c.requires.book_in.0 c.requires.book_in.3.bearers (inside (goal.at.loop-i-preserved c).After-trade_at-t) c.loop-i.invariant
+    c.trade_at-t.ensures (sym c.index.ensures.0 ∙ seller-is (goal.at.loop-i-preserved c).After-index) (buyer-is (goal.at.loop-i-preserved c).After-bearer_of-buyer)
+    c.index.ensures.0 c.index-in-loop-i.ensures.0 c.add_trade.ensures c.add_trade-in-loop-i.ensures
 
 pub returns : goal.returns
 returns c = let a = c.args in
     let e = c.requires.book_in.3 in
-    let last : c.loop-i.i ≡ count_of_trades a.book.now = omega (arith, c.loop-i-test.false, c.loop-i.invariant.0, c.requires.book_in.2) in
+    let last : c.loop-i.i ≡ count_of_trades a.book.now = omega (arith, c.loop-i-test.false, c.requires.book_in.2) in
     record {
-      summed_at = (λ rs borne. borne_end a.book.now a.bearers.now a.sellers.now a.buyers.now c.requires.book_in.0 e.bearers last c.loop-i.invariant.1 borne);
+      summed_at = (λ rs borne. borne_end a.book.now a.bearers.now a.sellers.now a.buyers.now c.requires.book_in.0 e.bearers last c.loop-i.invariant borne);
       low = borne_low a.book.now
-          a.bearers.now a.sellers.now a.buyers.now c.requires.book_in.0 e.bearers last c.loop-i.invariant.1 e.borne;
+          a.bearers.now a.sellers.now a.buyers.now c.requires.book_in.0 e.bearers last c.loop-i.invariant e.borne;
     }

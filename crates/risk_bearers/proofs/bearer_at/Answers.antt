@@ -27,11 +27,11 @@ pub returns-then-id-eq0 : goal.returns-then-id-eq0
 returns-then-id-eq0 c = bearer_self c.args.book.now c.requires.0 (omega (arith, c.requires.3, c.requires.4)) c.args.area (manager (goal.at.returns-then-id-eq0 c).After-get_u32-id) c.if-id-eq0.true
 
 pub overflow_cast-result-2 : goal.overflow_cast-result-2
-overflow_cast-result-2 c = omega (arith, c.place_of.ensures.1, c.requires.2.padded.few)
+overflow_cast-result-2 c = omega (arith, c.place_of.ensures.within, c.requires.2.padded.few)
 
 pub returns : goal.returns
 returns c = bearer_manager c.args.book.now c.requires.0 (omega (arith, c.requires.3, c.requires.4)) c.args.area (manager (goal.at.returns c).After-get_u32-id) c.if-id-eq0.false
-    (c.place_of.ensures.0 ∙ ap (λ (ids : List ℕ). place_in ids c.get_u32-id.result) c.requires.2.listed)
+    (c.unwrap_or.ensures ∙ c.place_of.ensures.stands ∙ ap (λ (ids : List ℕ). place_in ids c.get_u32-id.result) c.requires.2.listed)
 
 pub user_offset-requires : goal.user_offset-requires
 user_offset-requires c = there (goal.at.user_offset-requires c).Start

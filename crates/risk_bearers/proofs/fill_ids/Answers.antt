@@ -15,13 +15,13 @@ pub bounds-ids-i : goal.bounds-ids-i
 bounds-ids-i c = omega (arith, c.loop-i-test.true, c.requires.1, c.requires.0.held.form.users)
 
 pub loop-i-preserved : goal.loop-i-preserved
-loop-i-preserved c = (omega (arith, c.loop-i-test.true), ids_more c.args.book.now (there (goal.at.loop-i-preserved c).In-loop-i) c.requires.0.held.form.users c.user_offset.ensures.0 c.get_u32.ensures c.loop-i.invariant.1)
+loop-i-preserved c = ids_more c.args.book.now (there (goal.at.loop-i-preserved c).In-loop-i) c.requires.0.held.form.users c.user_offset.ensures.0 c.get_u32.ensures c.loop-i.invariant
 
 pub returns : goal.returns
-returns c = ids_end c.args.book.now c.requires.0 c.requires.1 (omega (arith, c.loop-i-test.false, c.loop-i.invariant.0)) c.loop-i.invariant.1
+returns c = ids_end c.args.book.now c.requires.0 c.requires.1 (omega (arith, c.loop-i-test.false)) c.loop-i.invariant
 
 pub loop-i-init : goal.loop-i-init
-loop-i-init c = (omega arith, ids_start (users_of c.args.book.now) c.requires.2)
+loop-i-init c = ids_start (users_of c.args.book.now) c.requires.2
 
 pub user_offset-requires : goal.user_offset-requires
 user_offset-requires c = there c

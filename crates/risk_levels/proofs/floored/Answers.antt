@@ -16,8 +16,8 @@ returns-then-exceeds c = let a = c.args in
       c.plus.ensures,
     )
 
-pub returns : goal.returns
-returns c = let a = c.args in
+pub returns-else-exceeds : goal.returns-else-exceeds
+returns-else-exceeds c = let a = c.args in
     omega (
       arith,
       floored_of (as_limits a.limits) (balance a.charges) a.worth.0 a.credit.0,

@@ -20,5 +20,5 @@ pub returns-then-id-eq0 : goal.returns-then-id-eq0
 returns-then-id-eq0 c = let v = get_or (users_of c.args.book.now) c.args.place nobody in
     bears_itself v c.args.area (manager (goal.at.returns-then-id-eq0 c).After-get_u32-id) c.if-id-eq0.true (c.get_u32.ensures ∙ id_is c.requires.0 c.user_offset-at.ensures.0)
 
-pub returns : goal.returns
-returns c = bears_manager (get_or (users_of c.args.book.now) c.args.place nobody) c.args.area (manager (goal.at.returns c).After-get_u32-id) c.if-id-eq0.false
+pub returns-else-id-eq0 : goal.returns-else-id-eq0
+returns-else-id-eq0 c = bears_manager (get_or (users_of c.args.book.now) c.args.place nobody) c.args.area (manager (goal.at.returns-else-id-eq0 c).After-get_u32-id) c.if-id-eq0.false

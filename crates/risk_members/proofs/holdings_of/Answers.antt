@@ -13,8 +13,8 @@ held_by-requires c = (c.requires.0, sym (c.has_managers.ensures ∙ ap managers_
 pub holdings_at-requires : goal.holdings_at-requires
 holdings_at-requires c = (c.requires.1.low, omega (arith, c.requires.2, c.requires.0.held.form.users))
 
-pub returns : goal.returns
-returns c = held_plain c.args.book.now c.requires.0 c.requires.2 (sym (c.has_managers.ensures ∙ ap managers_in c.version.ensures) ∙ c.if-has_managers.false) c.args.user c.requires.3 c.requires.1 c.holdings_at.ensures
+pub returns-else-has_managers : goal.returns-else-has_managers
+returns-else-has_managers c = held_plain c.args.book.now c.requires.0 c.requires.2 (sym (c.has_managers.ensures ∙ ap managers_in c.version.ensures) ∙ c.if-has_managers.false) c.args.user c.requires.3 c.requires.1 c.holdings_at.ensures
 
 pub version-requires : goal.version-requires
 version-requires c = omega (arith, c.requires.0.held.form.head)

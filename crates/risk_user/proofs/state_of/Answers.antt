@@ -1,5 +1,5 @@
 -- `state_of`: each way out is a case of the definition. Assumes nothing.
-use Rattle.base.specs.Basics.{get_or, rules}
+use Rattle.base.specs.Basics.{get_or}
 use Rattle.book_format.specs.Book.{users_of}
 use Rattle.rules.specs.Book.{User, nobody}
 use Rattle.rules.specs.Levels.{Limits}

@@ -9,8 +9,8 @@ use Rattle.risk_user.proofs.target_of.Goals as goal
 pub returns-then-exceeds_margin : goal.returns-then-exceeds_margin
 returns-then-exceeds_margin c = let a = c.args in
     target_beyond (as_limits a.day.limits) (get_or (users_of a.book.now) a.place nobody) a.level.0 c.exceeds_margin.ensures c.if-exceeds_margin.true
-    c.assigned_at-assigned.ensures c.less.ensures
+    c.assigned_at.ensures c.less.ensures
 
-pub returns : goal.returns
-returns c = let a = c.args in
+pub returns-else-exceeds_margin : goal.returns-else-exceeds_margin
+returns-else-exceeds_margin c = let a = c.args in
     target_within (as_limits a.day.limits) (get_or (users_of a.book.now) a.place nobody) a.level.0 c.exceeds_margin.ensures c.if-exceeds_margin.false

@@ -8,6 +8,6 @@ pub returns-then-area-eq-PVB : goal.returns-then-area-eq-PVB
 unfolding stock as_holding
 returns-then-area-eq-PVB c = record { result_value = rw (eq-eqb c.args.area 0 (omega arith)); result_bound = omega arith }
 
-pub returns : goal.returns
+pub returns-else-area-eq-PVB : goal.returns-else-area-eq-PVB
 unfolding stock as_holding
-returns c = record { result_value = rw (ne_eqb c.args.area 0 (λ h. omega arith)) c.long.ensures.result_value; result_bound = omega arith }
+returns-else-area-eq-PVB c = record { result_value = rw (ne_eqb c.args.area 0 (λ h. omega arith)) c.long.ensures.result_value; result_bound = omega arith }
