@@ -1,2 +1,2 @@
--- Laws of a walk that asks every place, and of one that stores one value at every place.
+-- Laws of two lists compared, and of a walk that asks every place.
 pub mod Walks

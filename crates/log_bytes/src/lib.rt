@@ -1,5 +1,5 @@
-// Parts of lent bytes as a whole: are two the same, is one all 0, make one all 0. Each is one walk without an early end, so that the
-// compiler takes many bytes at a time: a log has some 270,000 of them, and nearly all are 0.
+// Parts of lent bytes as a whole: are two the same, is one all 0, make one all 0. The question for 0 has no early end, as `all` has one, so
+// that the compiler takes many bytes at a time: a log has some 270,000 of them, and nearly all are 0.
 #![tactic(auto)]
 
 ghost use Rattle.std.specs.Prelude.{◌≡◌, length, replicate};
@@ -10,13 +10,7 @@ pub fn same(s: &[u8], t: &[u8]) -> bool
     requires { length s.now ≡ length t.now }
     ensures { result ≡ same_bytes s.now t.now }
 {
-    let mut so_far = true;
-    let mut i = 0;
-    while i < s.len() {
-        so_far = so_far & (s[i] == t[i]);
-        i += 1;
-    }
-    so_far
+    s == t
 }
 
 // Are all bytes 0?
@@ -24,10 +18,8 @@ pub fn is_zero(s: &[u8]) -> bool
     ensures { result ≡ zeros s.now }
 {
     let mut so_far = true;
-    let mut i = 0;
-    while i < s.len() {
-        so_far = so_far & (s[i] == 0);
-        i += 1;
+    for byte in s {
+        so_far &= *byte == 0;
     }
     so_far
 }
@@ -36,9 +28,5 @@ pub fn is_zero(s: &[u8]) -> bool
 pub fn clear(s: &mut [u8])
     ensures { s.new ≡ replicate (length s.old) 0 }
 {
-    let mut i = 0;
-    while i < s.len() {
-        s[i] = 0;
-        i += 1;
-    }
+    s.fill(0);
 }

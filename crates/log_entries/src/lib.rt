@@ -6,6 +6,9 @@ ghost use Rattle.std.specs.Prelude.{◌≡◌, ◌*◌, ◌<◌, ◌≤◌, leng
 ghost use Rattle.log_format.specs.Log.{entries_at, entry_at, entry_size, log_head, padded};
 ghost use Rattle.log_format.specs.Fits.{start_number, started};
 ghost use Rattle.log_entries.specs.Entries.{Notable, Noted, NotedAt, cleared, sealed};
+ghost use Rattle.refusals.specs.Refusal.{number_in};
+
+use refusals::Refusal;
 
 // ---- the first bytes, and the held book
 
@@ -47,11 +50,9 @@ fn put_cuts(entry: &mut [u8], origins: &[u8; 256], cuts: &[u64; 256], from: usiz
     requires { (length entry.old ≡ 1024) × Notable origins.now cuts.now from to }
     ensures { Noted origins.now cuts.now from to entry.old entry.new }
 {
-    let mut k = from;
-    while k < to {
+    for k in from..to {
         let place = indices::index(origins[k]);
         fields::put_u32(entry, 4 * place, cuts[k] as u32);
-        k += 1;
     }
 }
 
@@ -91,19 +92,18 @@ pub fn drop_entries(log: &mut [u8], count: usize)
 
 // ---- the start
 
-// Starts a log that holds a book, any bytes, and answers 0; or 19 where the log has another length or the book does not fit, and the log
-// stays as it is.
-pub fn start(log: &mut [u8], book: &[u8]) -> u32
-    ensures value { result ≡ start_number log.old book.now }
+// Starts a log that holds a book, any bytes. Where the log has another length or the book does not fit it is refused, and stays as it is.
+pub fn start(log: &mut [u8], book: &[u8]) -> Result<(), Refusal>
+    ensures value { number_in result ≡ start_number log.old book.now }
     ensures log_after { log.new ≡ started log.old book.now }
 {
     if log.len() != 271668 {
-        return 19;
+        return Err(Refusal::OtherLog);
     }
     if 9512 < book.len() {
-        return 19;
+        return Err(Refusal::OtherLog);
     }
     seal(log, book, 0);
     drop_entries(log, 256);
-    0
+    Ok(())
 }

@@ -12,7 +12,21 @@ use Rattle.log_format.specs.Noted.{emptied_by, room}
 use Rattle.rules.specs.Questions.{after, refusal}
 use Rattle.store.specs.Store.{given}
 use Rattle.log_lent.specs.Lent.{Emptiable, NotedLent, room_in}
+use Rattle.refusals.proofs.Numbers.{refused-nonzero}
+use Rattle.refusals.specs.Refusal.{number_in}
+use Rattle.refusals.specs.declared.Refusal.{Refusal}
+use Rattle.std.specs.Prelude.{Ok, Err, Result, is_err}
 use Rattle.laws.proofs.Refusals.{after_nonzero}
+
+-- ---- a call's outcome
+
+pub carried_out : {A : Type 0} (o : Result A Refusal) → is_err o ≡ false → number_in o ≡ 0
+carried_out (Ok x) e = refl
+carried_out (Err r) e = absurd (subst T e tt)
+
+pub refused : {A : Type 0} (o : Result A Refusal) → is_err o ≡ true → number_in o ≡ 0 → ⊥
+refused (Ok x) e = absurd (subst T (sym e) tt)
+refused (Err r) e = refused-nonzero r
 
 -- ---- question 19
 

@@ -1,5 +1,5 @@
 -- The cuts of an entry added to the sums of those before it, place by place. Assumes nothing.
-use Rattle.base.specs.Basics.{◌≡◌, refl, sym, ap, ap₂, ◌∙◌, List, [], ◌∷◌, ℕ, zero, suc, ◌+◌, ◌-◌, ◌*◌, ◌≤◌, ◌<◌, add-zero, le_of_suc-le-suc}
+use Rattle.base.specs.Basics.{◌≡◌, refl, sym, ap, ap₂, ◌∙◌, List, [], ◌∷◌, ℕ, zero, suc, ◌+◌, ◌*◌, ◌≤◌, ◌<◌, add-zero, le_of_suc-le-suc}
 use Rattle.base.specs.Basics.{not-suc-le-zero, arith, length, take, drop, get_or, set, drop-drop, get_or-take, length-take-le, get_or-set_other}
 use Rattle.base.specs.Basics.{get_or-set_same, sets}
 use Rattle.base.proofs.Stores.{here_or_apart}

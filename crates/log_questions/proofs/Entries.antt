@@ -1,5 +1,5 @@
 -- The cuts of all entries together, and each trade with what is cut of it. Assumes nothing.
-use Rattle.base.specs.Basics.{◌≡◌, refl, sym, ap, ap₂, subst, ◌∙◌, Bool, true, ◌&&◌, List, ℕ, ◌+◌, ◌-◌, ◌*◌, ◌≤◌, ◌<◌, add-one, arith}
+use Rattle.base.specs.Basics.{◌≡◌, refl, sym, ap, ap₂, subst, ◌∙◌, Bool, true, ◌&&◌, List, ℕ, ◌+◌, ◌*◌, ◌≤◌, ◌<◌, add-one, arith}
 use Rattle.base.specs.Basics.{length, take, drop, get_or, replicate, length-replicate, get_or-replicate, drop_of_length-le, get_or-eq_default}
 use Rattle.base.specs.Basics.{drop-cons, sets}
 use Rattle.base.proofs.Linear.{by_order}

@@ -1,6 +1,6 @@
 -- What a log that has passed the first part of question 19 is like, and its parts as slices have them. Assumes nothing.
-use Rattle.base.specs.Basics.{◌≡◌, sym, ap, ap₂, ◌∙◌, Bool, true, ◌&&◌, List, ℕ, ◌+◌, ◌-◌, ◌*◌, arith, eqb, eqb→eq, leb, leb→le, length, take, drop}
-use Rattle.base.specs.Basics.{length-drop, take_all, eq-eqb}
+use Rattle.base.specs.Basics.{◌≡◌, sym, ap, ap₂, ◌∙◌, Bool, true, false, ◌&&◌, List, ℕ, ◌+◌, ◌-◌, ◌*◌, arith, eqb, eqb→eq, leb, leb→le, length, take, drop}
+use Rattle.base.specs.Basics.{length-drop, take_all, eq-eqb, ne_eqb}
 use Rattle.base.proofs.Tests.{and_l, and_r, holds}
 use Rattle.log_format.specs.Log.{entry_at, count_of_entries, held_length, held_of, held_room, log_mark, log_mark_of, log_size, log_zero, most_entries}
 use Rattle.log_format.specs.Fits.{cuts_rest, entries_rest, held_rest, log_holds_book, log_is_formed, same_bytes}
@@ -26,6 +26,11 @@ unfolding log_holds_book held_of
 held_same l s held e k h =
     let long : (12 + held) - 12 ≡ held_length l = omega arith in
     h ∙ rw (long, eq-eqb (held_length l) (length s) (sym e ∙ k))
+
+-- where it has another length
+pub held_apart : (l s : List ℕ) (held : ℕ) → held ≡ held_length l → (held ≡ length s → ⊥) → false ≡ log_holds_book l s
+unfolding log_holds_book
+held_apart l s held e h = rw (ne_eqb (held_length l) (length s) (λ k. h (e ∙ k)))
 
 module _ {l : List ℕ} (f : LogFormed l) where
   -- the bytes behind the held book

@@ -37,10 +37,7 @@ fn holds_book(log: &[u8], book: &[u8]) -> bool
     ensures { result ≡ log_holds_book log.now book.now }
 {
     let held = fields::get_u32(log, 8) as usize;
-    if held != book.len() {
-        return false;
-    }
-    log_bytes::same(&log[12..12 + held], book)
+    held == book.len() && log_bytes::same(&log[12..12 + held], book)
 }
 
 // Are the bytes behind the held book 0?
@@ -78,10 +75,8 @@ fn add_cuts(log: &[u8], at: usize, m: usize, sums: &mut [u64; 256])
     ensures sums_after { sums.new ≡ sets sums.old 0 (together (cuts_from m at log.now) (take m sums.old)) }
     ensures by_index { (most : ℕ) → Sums sums.old most → Sums sums.new (most + 4294967296) }
 {
-    let mut k = 0;
-    while k < m {
+    for k in 0..m {
         sums[k] = fields::get_u32(log, at + 4 * k) as u64 + sums[k];
-        k += 1;
     }
 }
 
@@ -93,12 +88,10 @@ fn sum_entries(log: &[u8], count: usize, m: usize, sums: &mut [u64; 256]) -> boo
     ensures sums { Sums sums.new 1099511627776 }
 {
     let mut so_far = true;
-    let mut place = 0;
-    while place < count {
+    for place in 0..count {
         let at = entry_offset(place);
         add_cuts(log, at, m, sums);
         so_far = log_bytes::is_zero(&log[at + 4 * m..at + 1024]) & so_far;
-        place += 1;
     }
     so_far
 }
@@ -120,11 +113,9 @@ fn are_within(book: &[u8], at: usize, m: usize, sums: &[u64; 256]) -> bool
     ensures { result ≡ raises_within (take m sums.now) (trades_of book.now) }
 {
     let mut so_far = true;
-    let mut k = 0;
-    while k < m {
+    for k in 0..m {
         let t = book_format::trade_at(book, at, k);
-        so_far = so_far & is_within(t, sums[k]);
-        k += 1;
+        so_far &= is_within(t, sums[k]);
     }
     so_far
 }

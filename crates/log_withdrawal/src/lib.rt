@@ -26,15 +26,9 @@ fn raised(t: Trade, cut: u32) -> Trade
     requires cut_bound { cut ≤ 100000 }
     ensures { as_trade result ≡ raise_by cut (as_trade t) }
 {
-    let notified = t.notified;
     Trade {
-        seller: t.seller,
-        buyer: t.buyer,
-        area: t.area,
-        kind: t.kind,
-        day: t.day,
-        notified: notified,
         standing: t.standing.plus(Energy(cut as u64)),
+        ..t
     }
 }
 
@@ -71,13 +65,11 @@ pub fn give_back(
     requires in_bounds { (1024 ≤ length entry.now) × T (raises_within (cuts_from m 0 entry.now) (book_of book.old).trades) }
     ensures { HeldAs (withdrawn (book_of book.old) (cuts_from m 0 entry.now)) book.new }
 {
-    let mut k = 0;
-    while k < m {
+    for k in 0..m {
         let cut = fields::get_u32(entry, 4 * k);
         let seller = indices::index(sellers[k]);
         let buyer = indices::index(buyers[k]);
         give_back_at(book, at, seller, buyer, k, cut);
-        k += 1;
     }
 }
 
@@ -88,12 +80,10 @@ pub fn tally(book: &[u8], at: usize, m: usize, entry: &[u8], prices: Prices) -> 
     ensures { as_tally result ≡ tally_all (as_prices prices) (cuts_from m 0 entry.now) (book_of book.now).trades nothing }
 {
     let mut so_far = Tally::none();
-    let mut k = 0;
-    while k < m {
+    for k in 0..m {
         let cut = fields::get_u32(entry, 4 * k) as u64;
         let t = book_format::trade_at(book, at, k);
         so_far = cut_tiers::tally_with(so_far, cut, t.area, prices);
-        k += 1;
     }
     so_far
 }

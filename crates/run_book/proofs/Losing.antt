@@ -1,27 +1,8 @@
--- What stands of sales, copied, and what they have lost put in its place, one by one. Assumes nothing.
-use Rattle.base.specs.Basics.{◌≡◌, refl, sym, ap, ◌∙◌, List, [], ◌∷◌, ◌++◌, ℕ, ◌+◌, ◌-◌, ◌≤◌, ◌<◌, add-one, arith, length, take, get_or, set}
-use Rattle.base.specs.Basics.{length-set, get_or-set_other, take-suc, take-suc-set}
+-- What sales have lost, put in the place of what is left of them, one by one. Assumes nothing.
+use Rattle.base.specs.Basics.{◌≡◌, refl, ◌∙◌, List, ℕ, ◌+◌, ◌-◌, ◌≤◌, ◌<◌, arith, length, get_or, set}
+use Rattle.base.specs.Basics.{length-set, get_or-set_other}
 use Rattle.base.proofs.Stores.{set_front}
 use Rattle.run_book.specs.Books.{LeftOf, LostOf}
-
--- ---- copied
-
--- the first i are
-pub record CopiedTo (ns ms : List ℕ) (i : ℕ) : Type 0 where
-  pub room : length ms ≡ 256
-  pub front : take i ms ≡ take i ns
-
-pub copied_start : (ns : List ℕ) {ms : List ℕ} → length ms ≡ 256 → CopiedTo ns ms 0
-copied_start ns e = record { room = e; front = refl }
-
-pub copied_more : {ns ms : List ℕ} {i : ℕ} → length ns ≡ 256 → i < 256 → CopiedTo ns ms i → CopiedTo ns (set ms i (get_or ns i 0)) (i + 1)
-copied_more {ns} {ms} {i} e h p =
-    let more : take (i + 1) (set ms i (get_or ns i 0)) ≡ take i ms ++ (get_or ns i 0 ∷ []) = rw add-one (take-suc-set ms i (get_or ns i 0) (omega (arith, p.room))) in
-    let next : take (i + 1) ns ≡ take i ns ++ (get_or ns i 0 ∷ []) = rw add-one (take-suc ns i 0 (omega arith)) in
-    record {
-      room = length-set ms i (get_or ns i 0) ∙ p.room;
-      front = more ∙ ap (λ (xs : List ℕ). xs ++ (get_or ns i 0 ∷ [])) p.front ∙ sym next;
-    }
 
 -- ---- lost
 

@@ -22,11 +22,7 @@ pub fn copy_sales(standing: &[u64; 256], left: &mut [u64; 256], count: usize)
     requires { (count ≤ 256) × (length standing.now ≡ 256) × (length left.old ≡ 256) }
     ensures { (take count left.new ≡ take count standing.now) × (length left.new ≡ 256) }
 {
-    let mut i = 0;
-    while i < count {
-        left[i] = standing[i];
-        i += 1;
-    }
+    left[..count].copy_from_slice(&standing[..count]);
 }
 
 // Puts what the first `count` sales have lost in the place of what is left of them.
@@ -34,10 +30,8 @@ pub fn lost_of(standing: &[u64; 256], left: &mut [u64; 256], count: usize)
     requires { LeftOf standing.now left.old count }
     ensures { LostOf standing.now left.old left.new count }
 {
-    let mut i = 0;
-    while i < count {
+    for i in 0..count {
         left[i] = standing[i] - left[i];
-        i += 1;
     }
 }
 

@@ -1,5 +1,5 @@
 -- A run of at most so many reductions: one more reduction, and its end. What it notes. Assumes nothing.
-use Rattle.base.specs.Basics.{◌≡◌, refl, ap, ◌∙◌, none, some, List, ◌∷◌, ℕ, zero, suc, ◌+◌, ◌-◌, arith}
+use Rattle.base.specs.Basics.{◌≡◌, refl, ap, ◌∙◌, none, some, List, ◌∷◌, ℕ, zero, suc, ◌+◌, arith}
 use Rattle.laws.proofs.Fuel.{run_stops}
 use Rattle.rules.specs.Book.{Book, User}
 use Rattle.rules.specs.Calls.{Answer, next_reduced, answer_of_cuts, answer_of_run, only, onward, reduced, run_for}

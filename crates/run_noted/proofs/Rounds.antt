@@ -24,7 +24,7 @@ use Rattle.rules.specs.Areas.{Prices}
 use Rattle.rules.specs.Book.{Book, Party, User}
 use Rattle.rules.specs.Calls.{Answer, Result, next_reduced, answer_of_run, run_for}
 use Rattle.rules.specs.Levels.{Limits}
-use Rattle.rules.specs.Reduction.{cuts, target}
+use Rattle.rules.specs.Reduction.{target}
 use Rattle.run_state.proofs.Left.{continued, next_nobody, same_totals}
 use Rattle.base.proofs.Tests.{by_case}
 use Rattle.risk_user.proofs.Borne.{members_borne, party_borne}

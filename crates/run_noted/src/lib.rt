@@ -51,11 +51,11 @@ pub fn run_on(
     let mut noted = count;
     let mut cuts = [0u64; 256];
     let mut rests = [0u64; 256];
-    let mut place = run_turns::next_from(targets, 0, n);
-    while place < n {
+    let mut next = run_turns::next_from(targets, 0, n);
+    while let Some(place) = next {
         if noted == 256 {
             return Noted {
-                totals: totals,
+                totals,
                 count: noted,
                 due: true,
             };
@@ -79,14 +79,12 @@ pub fn run_on(
         let to = starts[place + 1];
         log_entries::note(log, noted, origins, &cuts, from, to);
         run_turns::clear(&mut cuts, from, to);
-        let tally = turned.tally;
-        totals = totals.with(tally);
+        totals = totals.with(turned.tally);
         noted += 1;
-        let least = turned.least;
-        place = run_turns::next_from(targets, least, n);
+        next = run_turns::next_from(targets, turned.least, n);
     }
     Noted {
-        totals: totals,
+        totals,
         count: noted,
         due: false,
     }

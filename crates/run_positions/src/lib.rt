@@ -34,13 +34,11 @@ pub fn fill_own(book: &[u8], n: usize, positions: &mut [u32; 192])
     requires { Formed book.now × (n ≡ count_of_users book.now) × (length positions.old ≡ 192) }
     ensures { PositionsOf (users_of book.now) positions.new × (length positions.new ≡ 192) }
 {
-    let mut i = 0;
-    while i < n {
+    for i in 0..n {
         let k = 3 * i;
         positions[k] = position_in(book, i, 0);
         positions[k + 1] = position_in(book, i, 1);
         positions[k + 2] = position_in(book, i, 2);
-        i += 1;
     }
 }
 
@@ -62,10 +60,10 @@ pub fn fill_positions(book: &[u8], n: usize, positions: &mut [u32; 192])
     ensures { PositionsOf (users_in book.now) positions.new × (length positions.new ≡ 192) }
 {
     if book_format::has_managers(book_format::version(book)) {
-        fill_borne(book, n, positions);
-        return;
+        fill_borne(book, n, positions)
+    } else {
+        fill_own(book, n, positions)
     }
-    fill_own(book, n, positions);
 }
 
 // ---- tiers

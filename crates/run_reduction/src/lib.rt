@@ -72,8 +72,7 @@ pub fn settle(
         → as_tally result ≡ tally_all (as_prices prices) (part from to cuts.now) ss nothing }
 {
     let mut tally = Tally::none();
-    let mut i = from;
-    while i < to {
+    for i in from..to {
         let cut = cuts[i];
         tally = settle_sale(
             standing,
@@ -86,7 +85,6 @@ pub fn settle(
             areas[i],
             prices,
         );
-        i += 1;
     }
     tally
 }

@@ -1,6 +1,6 @@
 -- Targets before the first reduction: called in or not, and the loop over the users. Assumes nothing.
-use Rattle.base.specs.Basics.{◌≡◌, refl, sym, ap, ap₂, subst, ◌∙◌, Bool, true, false, cond, not, ◌&&◌, ◌||◌, List, ℕ, suc, ◌+◌, ◌≤◌, ◌<◌, add-one}
-use Rattle.base.specs.Basics.{arith, T, ltb, length, get_or, set, length-set}
+use Rattle.base.specs.Basics.{◌≡◌, refl, sym, ap, ap₂, ◌∙◌, Bool, true, false, cond, ◌&&◌, ◌||◌, List, ℕ, suc, ◌+◌, ◌≤◌, ◌<◌, add-one}
+use Rattle.base.specs.Basics.{arith, ltb, length, get_or, set, length-set}
 use Rattle.laws_sales.specs.Parties.{cut_before}
 use Rattle.book_format.specs.Book.{book_of, users_of}
 use Rattle.laws_sales.specs.Borne.{borne_book}
@@ -27,23 +27,18 @@ use Rattle.laws_sales.specs.Parts.{part}
 
 -- ---- T or 0, by cases
 
-pub first_none : (flagged below : Bool) (t : ℕ) (left : Bool) → not left ≡ true → 0 ≡ owed_if flagged left below t
+pub first_none : (flagged below : Bool) (t : ℕ) {left : Bool} → left ≡ false → 0 ≡ owed_if flagged left below t
 unfolding owed_if
-first_none flagged below t true e = absurd (subst T (sym e) tt)
-first_none flagged below t false e = refl
+first_none flagged below t e = rw e
 
-has_left : (left : Bool) → not left ≡ false → left ≡ true
-has_left true e = refl
-has_left false e = absurd (subst T e tt)
-
-module _ (t : ℕ) (left : Bool) (l : not left ≡ false) where
+module _ (t : ℕ) {left : Bool} (l : left ≡ true) where
   pub first_called : (flagged below : Bool) {r : Bool} → r ≡ (flagged || below) → r ≡ true → t ≡ owed_if flagged left below t
   unfolding owed_if
-  first_called flagged below g e = rw (has_left left l, sym g ∙ e)
+  first_called flagged below g e = rw (l, sym g ∙ e)
 
   pub first_uncalled : (flagged below : Bool) {r : Bool} → r ≡ (flagged || below) → r ≡ false → 0 ≡ owed_if flagged left below t
   unfolding owed_if
-  first_uncalled flagged below g e = rw (has_left left l, sym g ∙ e)
+  first_uncalled flagged below g e = rw (l, sym g ∙ e)
 
 -- of a user that is party to a trade standing below notified
 pub owed_cut : (flagged left : Bool) (t : ℕ) → owed_if flagged left true t ≡ cond left t 0

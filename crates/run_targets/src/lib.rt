@@ -19,17 +19,15 @@ use units::Cents;
 
 // ---- before the first reduction
 
-// Does one of the sales from..to stand above 0?
+// Does one of the sales from..to stand above 0? A loop over the places, since `standing[from..to]` would ask that from is at most to.
 pub fn any_left(standing: &[u64; 256], from: usize, to: usize) -> bool
     requires { (to ≤ 256) × (length standing.now ≡ 256) }
     ensures { result ≡ any (λ n. ltb 0 n) (part from to standing.now) }
 {
-    let mut i = from;
-    while i < to {
+    for i in from..to {
         if 0 < standing[i] {
             return true;
         }
-        i += 1;
     }
     false
 }
@@ -49,13 +47,11 @@ pub fn owed_at(
     ensures { result.0 ≡ owed_if (flagged_at (as_limits day.limits) (as_prices day.prices) (users_of book.now) positions.now place) left below_notified
         (target_of_place (as_limits day.limits) (as_prices day.prices) (users_of book.now) sums.now positions.now place) }
 {
-    if !left {
-        return Cents(0);
+    if left && risk_user::called_at(book, positions, place, below_notified, day) {
+        risk_user::target_at(book, sums, positions, place, day)
+    } else {
+        Cents(0)
     }
-    if risk_user::called_at(book, positions, place, below_notified, day) {
-        return risk_user::target_at(book, sums, positions, place, day);
-    }
-    Cents(0)
 }
 
 // Fills in who has an eligible trade, and T where a user is due.
@@ -75,15 +71,10 @@ pub fn fill_targets(
     requires opening { Opening (as_limits day.limits) (as_prices day.prices) n book.now sums.now positions.now starts.now standing.now below_notified.now × (length targets.old ≡ 64) × (length eligible.old ≡ 64) }
     ensures { OwedOf (as_limits day.limits) (book_of book.now) targets.new eligible.new × (length targets.new ≡ 64) × (length eligible.new ≡ 64) }
 {
-    let mut i = 0;
-    while i < n {
-        let from = starts[i];
-        let to = starts[i + 1];
-        let left = any_left(standing, from, to);
+    for i in 0..n {
+        let left = any_left(standing, starts[i], starts[i + 1]);
         eligible[i] = left;
-        let owed = owed_at(book, sums, positions, i, left, below_notified[i], day);
-        targets[i] = owed.0;
-        i += 1;
+        targets[i] = owed_at(book, sums, positions, i, left, below_notified[i], day).0;
     }
 }
 
@@ -133,13 +124,11 @@ pub fn look_again(
         (part from to sale_buyers.now) (part from to cuts.now) targets.old targets.new result × (result ≤ least) }
 {
     let mut low = least;
-    let mut i = from;
-    while i < to {
+    for i in from..to {
         if 0 < cuts[i] {
             let place = indices::index(sale_buyers[i]);
             low = look_at(book, sums, positions, eligible, targets, place, low, day);
         }
-        i += 1;
     }
     low
 }

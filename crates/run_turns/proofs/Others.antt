@@ -1,13 +1,14 @@
 -- What a reduction leaves of the other users: their sales, and with them what is kept of each. Assumes nothing.
-use Rattle.base.specs.Basics.{◌≡◌, refl, sym, subst, ◌∙◌, false, List, ℕ, suc, ◌+◌, ◌≤◌, ◌<◌, arith, length, get_or, set, replicate}
+use Rattle.base.specs.Basics.{◌≡◌, refl, sym, subst, ◌∙◌, List, ℕ, suc, ◌+◌, ◌≤◌, ◌<◌, arith, length, get_or, set, replicate}
 use Rattle.base.specs.Basics.{length-set, length-replicate, get_or-replicate}
 use Rattle.base.proofs.Linear.{by_order}
 use Rattle.base.proofs.Stores.{set_each}
 use Rattle.book_format.proofs.Passed.{length-users_of}
 use Rattle.book_format.specs.Book.{book_of, count_of_users}
 use Rattle.cut_peaks.proofs.After.{kept_elsewhere}
-use Rattle.cut_peaks.proofs.Keeping.{never}
 use Rattle.cut_peaks.specs.declared.Kept.{Kept}
+use Rattle.std.specs.Prelude.{Option, None}
+use Rattle.std.proofs.lemmas.Option.{none-some}
 use Rattle.laws_sales.proofs.Listed.{starts_rise}
 use Rattle.laws_sales.proofs.Parts.{Around, part_before, part_behind}
 use Rattle.laws_sales.specs.Borne.{borne_book}
@@ -51,30 +52,30 @@ module _ {n : ℕ} {ss : List ℕ} where
 -- ---- what is kept
 
 -- nothing is known of a user
-pub keeps_nothing : {f : Prices} {ss ns areas : List ℕ} {place : ℕ} {k : Kept} → k.known ≡ false → Keeps f ss ns areas place k
-keeps_nothing e = record { kept = λ g. absurd (never (sym e ∙ g)) }
+pub keeps_nothing : {f : Prices} {ss ns areas : List ℕ} {place : ℕ} → Keeps f ss ns areas place None
+keeps_nothing = record { kept = λ k e. absurd (none-some k e) }
 
 -- where its sales stand as they stood
-keeps_elsewhere : {f : Prices} {ss areas ns : List ℕ} (ms : List ℕ) (i : ℕ) {k : Kept} → part (get_or ss i 0) (get_or ss (i + 1) 0) ms ≡ part (get_or ss i 0) (get_or ss (i + 1) 0) ns
-    → Keeps f ss ns areas i k → Keeps f ss ms areas i k
-keeps_elsewhere ms i e q = record { kept = λ g. kept_elsewhere ms e (q.kept g) }
+keeps_elsewhere : {f : Prices} {ss areas ns : List ℕ} (ms : List ℕ) (i : ℕ) {o : Option Kept} → part (get_or ss i 0) (get_or ss (i + 1) 0) ms ≡ part (get_or ss i 0) (get_or ss (i + 1) 0) ns
+    → Keeps f ss ns areas i o → Keeps f ss ms areas i o
+keeps_elsewhere ms i e q = record { kept = λ k g. kept_elsewhere ms e (q.kept k g) }
 
 -- of each user with many sales of the n, in an array
-pub record KeepsAll (f : Prices) (n : ℕ) (ss ns areas : List ℕ) (ks : List Kept) : Type 0 where
+pub record KeepsAll (f : Prices) (n : ℕ) (ss ns areas : List ℕ) (ks : List (Option Kept)) : Type 0 where
   pub room : length ks ≡ 64
-  pub each : (d : Kept) (i : ℕ) → i < n → get_or ss i 0 + 8 < get_or ss (i + 1) 0 → Keeps f ss ns areas i (get_or ks i d)
+  pub each : (d : Option Kept) (i : ℕ) → i < n → get_or ss i 0 + 8 < get_or ss (i + 1) 0 → Keeps f ss ns areas i (get_or ks i d)
 
 module _ {f : Prices} {n : ℕ} {ss areas : List ℕ} where
-  pub keeps_start : {ns : List ℕ} {k : Kept} → n ≤ 64 → k.known ≡ false → KeepsAll f n ss ns areas (replicate 64 k)
-  keeps_start {ns} {k} few e =
+  pub keeps_start : {ns : List ℕ} → n ≤ 64 → KeepsAll f n ss ns areas (replicate 64 None)
+  keeps_start {ns} few =
       record {
-        room = length-replicate {A = Kept} 64 k;
-        each = λ d i l w. subst (λ (x : Kept). Keeps f ss ns areas i x) (sym (get_or-replicate {A = Kept} 64 i k d (omega arith))) (keeps_nothing e);
+        room = length-replicate {A = Option Kept} 64 None;
+        each = λ d i l w. subst (λ (x : Option Kept). Keeps f ss ns areas i x) (sym (get_or-replicate {A = Option Kept} 64 i None d (omega arith))) keeps_nothing;
       }
 
-  module _ {ns : List ℕ} {ks : List Kept} (p : KeepsAll f n ss ns areas ks) where
+  module _ {ns : List ℕ} {ks : List (Option Kept)} (p : KeepsAll f n ss ns areas ks) where
     -- after the reduction of one of them
-    pub keeps_turn : {m place : ℕ} {ms : List ℕ} {k : Kept} → n ≡ m → place < 64 → OthersStand m ss place ns ms → Keeps f ss ms areas place k → KeepsAll f n ss ms areas (set ks place k)
+    pub keeps_turn : {m place : ℕ} {ms : List ℕ} {k : Option Kept} → n ≡ m → place < 64 → OthersStand m ss place ns ms → Keeps f ss ms areas place k → KeepsAll f n ss ms areas (set ks place k)
     keeps_turn {m} {place} {ms} {k} all h o q =
         record {
           room = length-set ks place k ∙ p.room;

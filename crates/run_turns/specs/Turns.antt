@@ -1,6 +1,7 @@
 -- A run on arrays: what stays, what one reduction gives, and what all give. Assumes nothing.
-use Rattle.std.specs.Prelude.{◌≡◌, ◌+◌, ◌≤◌, ◌<◌}
-use Rattle.base.specs.Basics.{Bool, true, List, ℕ, length, get_or}
+use Rattle.std.specs.Prelude.{◌≡◌, ◌+◌, ◌≤◌, ◌<◌, Option}
+use Rattle.std.specs.Option.{ForSome}
+use Rattle.base.specs.Basics.{Bool, List, ℕ, length, get_or}
 use Rattle.book_format.specs.Book.{book_of}
 use Rattle.cut_peaks.specs.Keeping.{Chosen, KeptFor}
 use Rattle.cut_peaks.specs.Peaks.{NoneCut}
@@ -68,8 +69,8 @@ pub record Sweepable (f : Prices) (asked : ℕ) (ns areas ps : List ℕ) (place 
   pub chosen : Chosen f short asked ns areas from to none cs c
 
 -- what is kept of the user at a place, where anything is known of it, is that of its sales
-pub record Keeps (f : Prices) (ss ns areas : List ℕ) (place : ℕ) (k : Kept) : Type 0 where
-  pub kept : k.known ≡ true → KeptFor f k ns areas (get_or ss place 0) (get_or ss (place + 1) 0)
+pub record Keeps (f : Prices) (ss ns areas : List ℕ) (place : ℕ) (o : Option Kept) : Type 0 where
+  pub kept : ForSome o (λ k. KeptFor f k ns areas (get_or ss place 0) (get_or ss (place + 1) 0))
 
 -- ---- all of them
 

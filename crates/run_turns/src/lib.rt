@@ -2,7 +2,7 @@
 // book throughout.
 #![tactic(auto)]
 
-ghost use Rattle.std.specs.Prelude.{◌≡◌, ◌+◌, ◌≤◌, ◌<◌, get_or, length, true, false};
+ghost use Rattle.std.specs.Prelude.{◌≡◌, ◌+◌, ◌≤◌, ◌<◌, get_or, length, true, false, unwrap_or, IfSome};
 ghost use Rattle.book_format.specs.Book.{book_of, count_of_users};
 ghost use Rattle.rules.specs.Book.{Book};
 ghost use Rattle.run_state.specs.Going.{Going};
@@ -85,41 +85,34 @@ pub fn turn(
     );
     let left = run_targets::any_left(standing, from, to);
     eligible[place] = left;
-    let owed = run_targets::owed_at(book, sums, positions, place, left, true, day);
-    targets[place] = owed.0;
-    Reduced {
-        tally: tally,
-        least: least,
-    }
+    targets[place] = run_targets::owed_at(book, sums, positions, place, left, true, day).0;
+    Reduced { tally, least }
 }
 
 // ---- cuts and places
 
-// Clears the cuts from..to.
+// Clears the cuts from..to. A loop over the places, since `cuts[from..to].fill(0)` would ask that from is at most to.
 pub fn clear(cuts: &mut [u64; 256], from: usize, to: usize)
     requires { CutIn from to cuts.old × (to ≤ 256) }
     ensures { NoneCut cuts.new }
 {
-    let mut i = from;
-    while i < to {
+    for i in from..to {
         cuts[i] = 0;
-        i += 1;
     }
 }
 
-// The first place from `least` on with a target, of n; n where there is none.
-pub fn next_from(targets: &[u64; 64], least: usize, n: usize) -> usize
+// The first place from `least` on with a target, of n.
+pub fn next_from(targets: &[u64; 64], least: usize, n: usize) -> Option<usize>
     requires { (least ≤ n) × (n ≤ 64) }
-    ensures { NextFrom targets.now least n result }
+    ensures first { NextFrom targets.now least n (unwrap_or result n) }
+    ensures inside { IfSome result (λ place. place < n) }
 {
-    let mut i = least;
-    while i < n {
+    for i in least..n {
         if 0 < targets[i] {
-            return i;
+            return Some(i);
         }
-        i += 1;
     }
-    i
+    None
 }
 
 // Reduces the user at a place, which is due, for its target, and clears its cuts.
@@ -177,22 +170,14 @@ fn is_kept(starts: &[usize; 65], place: usize, reductions: u64) -> bool
     ensures { (result ≡ true → (64 ≤ reductions) × (get_or starts.now place 0 + 8 < get_or starts.now (place + 1) 0))
         × (result ≡ false → 64 ≤ reductions → get_or starts.now (place + 1) 0 ≤ get_or starts.now place 0 + 8) }
 {
-    if reductions < LONG {
-        return false;
-    }
-    let from = starts[place];
-    let to = starts[place + 1];
-    if to - from <= 8 {
-        return false;
-    }
-    true
+    LONG <= reductions && 8 < starts[place + 1] - starts[place]
 }
 
-// Where a run stands between two reductions: its totals so far, and the place of the user that is due next, n where nobody is.
+// Where a run stands between two reductions: its totals so far, and the place of the user that is due next.
 #[derive(Clone, Copy)]
 pub struct Stage {
     pub totals: Totals,
-    pub place: usize,
+    pub due: Option<usize>,
 }
 
 // Reduces the first user that is due in a book of n users, from a place on, until nobody is, or the run is long and one with many sales is.
@@ -211,22 +196,19 @@ fn run_plain(
     rests: &mut [u64; 256],
     day: Day,
     so_far: Totals,
-    due: usize,
+    due: Option<usize>,
 ) -> Stage
     requires run_of { RunOf (as_limits day.limits) (as_prices day.prices) book.now sums.now starts.now areas.now sale_buyers.now × (n ≡ count_of_users book.now) }
-    requires run_to { RunTo (as_limits day.limits) book.now n standing.old positions.old targets.old eligible.old cuts.old rests.old so_far due }
-    ensures run_to_2 { RunTo (as_limits day.limits) book.now n standing.new positions.new targets.new eligible.new cuts.new rests.new result.totals result.place }
+    requires run_to { RunTo (as_limits day.limits) book.now n standing.old positions.old targets.old eligible.old cuts.old rests.old so_far (unwrap_or due n) × IfSome due (λ place. place < n) }
+    ensures run_to_2 { RunTo (as_limits day.limits) book.now n standing.new positions.new targets.new eligible.new cuts.new rests.new result.totals (unwrap_or result.due n) }
     ensures so_far_bound { (so_far.reductions ≤ result.totals.reductions) × (64 ≤ so_far.reductions → ManyStand n starts.now standing.old standing.new)
-        × (result.place < n → (64 ≤ result.totals.reductions) × (get_or starts.now result.place 0 + 8 < get_or starts.now (result.place + 1) 0)) }
+        × IfSome result.due (λ place. (place < n) × (64 ≤ result.totals.reductions) × (get_or starts.now place 0 + 8 < get_or starts.now (place + 1) 0)) }
 {
     let mut totals = so_far;
-    let mut place = due;
-    while place < n {
+    let mut next = due;
+    while let Some(place) = next {
         if is_kept(starts, place, totals.reductions) {
-            return Stage {
-                totals: totals,
-                place: place,
-            };
+            return Stage { totals, due: next };
         }
         let turned = plain_turn(
             book,
@@ -243,15 +225,10 @@ fn run_plain(
             place,
             day,
         );
-        let tally = turned.tally;
-        totals = totals.with(tally);
-        let least = turned.least;
-        place = next_from(targets, least, n);
+        totals = totals.with(turned.tally);
+        next = next_from(targets, turned.least, n);
     }
-    Stage {
-        totals: totals,
-        place: place,
-    }
+    Stage { totals, due: None }
 }
 
 // Runs a book of n users: reduces the first user that is due until nobody is. What stands of the own sales is then the rules' book.
@@ -274,7 +251,6 @@ pub fn run_on(
 {
     let mut cuts = [0u64; 256];
     let mut rests = [0u64; 256];
-    let none = Totals::none();
     let first = next_from(targets, 0, n);
     let stage = run_plain(
         book,
@@ -290,14 +266,9 @@ pub fn run_on(
         &mut cuts,
         &mut rests,
         day,
-        none,
+        Totals::none(),
         first,
     );
-    let totals = stage.totals;
-    let place = stage.place;
-    if n <= place {
-        return totals;
-    }
     long::run_long(
         book,
         n,
@@ -312,7 +283,7 @@ pub fn run_on(
         &mut cuts,
         &mut rests,
         day,
-        totals,
-        place,
+        stage.totals,
+        stage.due,
     )
 }

@@ -1,5 +1,6 @@
 // Long runs: of each seller with many sales it is kept which of them are cut next, so that its reductions do not look through all of them.
-ghost use Rattle.std.specs.Prelude.{◌≡◌, true, ◌+◌, ◌≤◌, ◌<◌, get_or, length};
+ghost use Rattle.std.specs.Prelude.{◌≡◌, ◌+◌, ◌≤◌, ◌<◌, get_or, length, unwrap_or, IfSome};
+ghost use Rattle.std.specs.Option.{ForSome};
 ghost use Rattle.book_format.specs.Book.{book_of, count_of_users};
 ghost use Rattle.rules.specs.Book.{Book};
 ghost use Rattle.run_state.specs.Going.{Going};
@@ -13,7 +14,7 @@ ghost use Rattle.cut_worth.specs.Rates.{Sales};
 ghost use Rattle.run_reduction.specs.Reductions.{RunOf};
 ghost use Rattle.run_turns.specs.Turns.{Keeps, Ongoing, OthersStand, Ran, RunTo, Sweepable, Turned, TurnedSome};
 
-use cut_peaks::{Choice, Kept};
+use cut_peaks::{Choice, Kept, Sweep};
 use cut_worth::{Tally, Totals};
 use risk_user::Day;
 use units::Prices;
@@ -25,7 +26,7 @@ use units::Prices;
 pub struct LongTurn {
     pub tally: Tally,
     pub least: usize,
-    pub kept: Kept,
+    pub kept: Option<Kept>,
 }
 
 // Fills in the cuts of the user at a place, which is due, where only the highest of its sales lose, one MWh each.
@@ -38,11 +39,11 @@ fn chosen(
     place: usize,
     from: usize,
     to: usize,
-    kept: Kept,
+    kept: Option<Kept>,
     cuts: &mut [u64; 256],
 ) -> Choice
     requires in_range { InRange (as_prices prices) × Sales standing.now areas.now from to × (from ≤ to) × NoneCut cuts.old × (0 < asked) × (place < 64) }
-    requires kept_for { kept.known ≡ true → KeptFor (as_prices prices) kept standing.now areas.now from to }
+    requires kept_for { ForSome kept (λ k. KeptFor (as_prices prices) k standing.now areas.now from to) }
     ensures { Sweepable (as_prices prices) asked standing.now areas.now positions.now place from to cuts.new result }
 {
     let short = run_positions::shorts_at(positions, place);
@@ -63,11 +64,12 @@ fn sweep(
     cuts: &mut [u64; 256],
     place: usize,
     day: Day,
-    choice: Choice,
+    kept: Kept,
+    cut: Sweep,
 ) -> LongTurn
     requires run_of { RunOf (as_limits day.limits) (as_prices day.prices) book.now sums.now starts.now areas.now sale_buyers.now × (place < count_of_users book.now) × (0 < get_or targets.old place 0) }
-    requires ongoing { Ongoing (as_limits day.limits) (book_of book.now) standing.old positions.old targets.old eligible.old × (choice.fits ≡ true) }
-    requires sweepable { Sweepable (as_prices day.prices) (get_or targets.old place 0) standing.old areas.now positions.old place (get_or starts.now place 0) (get_or starts.now (place + 1) 0) cuts.old choice }
+    requires ongoing { Ongoing (as_limits day.limits) (book_of book.now) standing.old positions.old targets.old eligible.old }
+    requires sweepable { Sweepable (as_prices day.prices) (get_or targets.old place 0) standing.old areas.now positions.old place (get_or starts.now place 0) (get_or starts.now (place + 1) 0) cuts.old (Choice.Filled kept cut) }
     ensures turned { (b : Book) → Going (as_limits day.limits) (book_of book.now) b standing.old positions.old targets.old eligible.old
         → Turned (as_limits day.limits) (book_of book.now) b place targets.old standing.new positions.new targets.new eligible.new
         (part (get_or starts.now place 0) (get_or starts.now (place + 1) 0) cuts.old) result.tally result.least }
@@ -76,9 +78,8 @@ fn sweep(
 {
     let from = starts[place];
     let to = starts[place + 1];
-    let kept = choice.kept;
     let first = kept.place;
-    let end = choice.end;
+    let end = cut.end;
     let tally = run_reduction::settle(
         standing,
         areas,
@@ -109,9 +110,9 @@ fn sweep(
     let owed = run_targets::owed_at(book, sums, positions, place, some, true, day);
     targets[place] = owed.0;
     LongTurn {
-        tally: tally,
-        least: least,
-        kept: kept.swept(end, choice.lost),
+        tally,
+        least,
+        kept: Some(kept.swept(end, cut.lost)),
     }
 }
 
@@ -130,7 +131,7 @@ fn next_turn(
     rests: &mut [u64; 256],
     place: usize,
     day: Day,
-    kept: Kept,
+    kept: Option<Kept>,
 ) -> LongTurn
     requires run_of { RunOf (as_limits day.limits) (as_prices day.prices) book.now sums.now starts.now areas.now sale_buyers.now × (place < count_of_users book.now) × (0 < get_or targets.old place 0) }
     requires ongoing { Ongoing (as_limits day.limits) (book_of book.now) standing.old positions.old targets.old eligible.old × NoneCut cuts.old × (length rests.old ≡ 256) }
@@ -143,11 +144,10 @@ fn next_turn(
     let from = starts[place];
     let to = starts[place + 1];
     let asked = targets[place];
-    let choice = chosen(
+    match chosen(
         standing, areas, positions, day.prices, asked, place, from, to, kept, cuts,
-    );
-    if choice.fits {
-        return sweep(
+    ) {
+        Choice::Filled { kept, sweep: cut } => sweep(
             book,
             sums,
             starts,
@@ -160,37 +160,38 @@ fn next_turn(
             cuts,
             place,
             day,
-            choice,
-        );
-    }
-    let tried = choice.kept;
-    crate::clear(cuts, tried.place, choice.end);
-    let turned = crate::plain_turn(
-        book,
-        sums,
-        starts,
-        standing,
-        areas,
-        sale_buyers,
-        positions,
-        eligible,
-        targets,
-        cuts,
-        rests,
-        place,
-        day,
-    );
-    let tally = turned.tally;
-    LongTurn {
-        tally: tally,
-        least: turned.least,
-        kept: Kept::nothing(),
+            kept,
+            cut,
+        ),
+        Choice::Partial { first, end } => {
+            crate::clear(cuts, first, end);
+            let turned = crate::plain_turn(
+                book,
+                sums,
+                starts,
+                standing,
+                areas,
+                sale_buyers,
+                positions,
+                eligible,
+                targets,
+                cuts,
+                rests,
+                place,
+                day,
+            );
+            LongTurn {
+                tally: turned.tally,
+                least: turned.least,
+                kept: None,
+            }
+        }
     }
 }
 
 // ---- all of them
 
-// Goes on with a long run of a book of n users, at which a user with many sales is due, until nobody is.
+// Goes on with a run of a book of n users until nobody is due; if a user is, the run is long and it has many sales.
 pub fn run_long(
     book: &[u8],
     n: usize,
@@ -206,18 +207,17 @@ pub fn run_long(
     rests: &mut [u64; 256],
     day: Day,
     so_far: Totals,
-    due: usize,
+    due: Option<usize>,
 ) -> Totals
     requires run_of { RunOf (as_limits day.limits) (as_prices day.prices) book.now sums.now starts.now areas.now sale_buyers.now × (n ≡ count_of_users book.now) }
-    requires run_to { RunTo (as_limits day.limits) book.now n standing.old positions.old targets.old eligible.old cuts.old rests.old so_far due
-        × (due < n → (64 ≤ so_far.reductions) × (get_or starts.now due 0 + 8 < get_or starts.now (due + 1) 0)) }
+    requires run_to { RunTo (as_limits day.limits) book.now n standing.old positions.old targets.old eligible.old cuts.old rests.old so_far (unwrap_or due n)
+        × IfSome due (λ place. (place < n) × (64 ≤ so_far.reductions) × (get_or starts.now place 0 + 8 < get_or starts.now (place + 1) 0)) }
     ensures { Ran (whole_run (as_limits day.limits) (book_of book.now)) (book_of book.now) standing.new result }
 {
-    let nothing = Kept::nothing();
-    let mut kept = [nothing; 64];
+    let mut kept: [Option<Kept>; 64] = [None; 64];
     let mut totals = so_far;
-    let mut place = due;
-    while place < n {
+    let mut next = due;
+    while let Some(place) = next {
         let was = kept[place];
         let turned = next_turn(
             book,
@@ -235,12 +235,9 @@ pub fn run_long(
             day,
             was,
         );
-        let keeps = turned.kept;
-        kept[place] = keeps;
-        let tally = turned.tally;
-        totals = totals.with(tally);
-        let least = turned.least;
-        let next = crate::next_from(targets, least, n);
+        kept[place] = turned.kept;
+        totals = totals.with(turned.tally);
+        let first = crate::next_from(targets, turned.least, n);
         let stage = crate::run_plain(
             book,
             n,
@@ -256,10 +253,10 @@ pub fn run_long(
             rests,
             day,
             totals,
-            next,
+            first,
         );
         totals = stage.totals;
-        place = stage.place;
+        next = stage.due;
     }
     totals
 }

@@ -1,5 +1,5 @@
 -- `has_room` compares the count of a log that is given. Assumes nothing.
-use Rattle.base.specs.Basics.{◌≡◌, arith}
+use Rattle.base.specs.Basics.{◌≡◌, ◌∙◌, ap, not}
 use Rattle.log_format.specs.Log.{count_of_entries}
 use Rattle.log_lent.proofs.Ways.{room_lent, room_not_lent}
 use Rattle.log_lent.proofs.has_room.Goals as goal
@@ -10,10 +10,7 @@ unfolding count_of_entries
 count c = c.get_u32.ensures
 
 pub returns-then-not-with_log : goal.returns-then-not-with_log
-returns-then-not-with_log c = room_not_lent c.args.log.now c.if-not-with_log.true
+returns-then-not-with_log c = ap not c.if-not-with_log.true ∙ room_not_lent c.args.log.now c.if-not-with_log.true
 
-pub get_u32-requires : goal.get_u32-requires
-get_u32-requires c = omega (arith, c.requires c.if-not-with_log.false)
-
-pub returns : goal.returns
-returns c = room_lent c.args.log.now c.if-not-with_log.false (count c)
+pub returns-else-not-with_log : goal.returns-else-not-with_log
+returns-else-not-with_log c = room_lent c.args.log.now c.if-not-with_log.false (count c)

@@ -1,9 +1,5 @@
-use Rattle.base.specs.Basics.{◌-◌}
 use Rattle.log_questions.proofs.Cuts.{AddedTo}
 use Rattle.log_questions.proofs.add_cuts.Given as goal
 
 abbrev pub invariant-loop-k : goal.invariant-loop-k
 invariant-loop-k l = AddedTo l.m l.at l.log l.initial.sums l.sums l.k
-
-abbrev pub decreases-loop-k : goal.decreases-loop-k
-decreases-loop-k l = l.m - l.k

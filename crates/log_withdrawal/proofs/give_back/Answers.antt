@@ -35,9 +35,6 @@ give_back_at-requires c = back_here c.requires.book_in.0 (cuts_from c.args.m 0 c
     (omega (arith, c.loop-k-test.true, trades-are (goal.at.give_back_at-requires c).Start)) c.index-seller.ensures.0
     c.index-buyer.ensures.0 (cut-is (goal.at.give_back_at-requires c).After-get_u32-cut) c.requires.book_in.1
 
-pub overflow_add-k : goal.overflow_add-k
-overflow_add-k c = omega (arith, few (goal.at.overflow_add-k c).Start)
-
 pub loop-k-preserved : goal.loop-k-preserved
 loop-k-preserved c = (
   given_more c.requires.book_in.0 (cuts_from c.args.m 0 c.args.entry.now) c.requires.in_bounds.1 (cuts_are (goal.at.loop-k-preserved c).Start) c.loop-k.invariant.0

@@ -76,6 +76,3 @@ loop-k-init c = tallied_start c.none-so_far.ensures.result_value c.none-so_far.e
 
 pub overflow_mul-k : goal.overflow_mul-k
 overflow_mul-k c = omega (arith, few (goal.at.overflow_mul-k c).Start)
-
-pub overflow_add-k : goal.overflow_add-k
-overflow_add-k c = omega (arith, few (goal.at.overflow_add-k c).Start)

@@ -5,6 +5,3 @@ use Rattle.run_positions.proofs.fill_own.Given as goal
 
 abbrev pub invariant-loop-i : goal.invariant-loop-i
 invariant-loop-i l = PlacedTo (users_of l.book) l.i l.positions
-
-abbrev pub decreases-loop-i : goal.decreases-loop-i
-decreases-loop-i l = l.n - l.i

@@ -16,5 +16,5 @@ returns-then-has_managers c = c.fill_borne.ensures
 pub fill_own-requires : goal.fill_own-requires
 fill_own-requires c = (c.requires.0.held.form, c.requires.1, c.requires.2)
 
-pub returns : goal.returns
-returns c = (positions_plain c.args.book.now c.requires.0 (sym (c.has_managers.ensures ∙ ap managers_in c.version.ensures) ∙ c.if-has_managers.false) c.fill_own.ensures.0, c.fill_own.ensures.1)
+pub returns-else-has_managers : goal.returns-else-has_managers
+returns-else-has_managers c = (positions_plain c.args.book.now c.requires.0 (sym (c.has_managers.ensures ∙ ap managers_in c.version.ensures) ∙ c.if-has_managers.false) c.fill_own.ensures.0, c.fill_own.ensures.1)

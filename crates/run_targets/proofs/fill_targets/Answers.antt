@@ -16,8 +16,8 @@ any_left-left-requires c = let a = c.args in
     let k = member_in p c.loop-i-test.true in
     (end_few p i k, p.standing_room)
 
-pub owed_at-owed-requires : goal.owed_at-owed-requires
-owed_at-owed-requires c = let p = c.requires.opening.0 in
+pub owed_at-requires : goal.owed_at-requires
+owed_at-requires c = let p = c.requires.opening.0 in
     (c.requires.day_of, record { form = p.risk.opened.accepted.held.form; inside = omega (arith, p.users_are, c.loop-i-test.true) }, p.risk.sums_are.low)
 
 pub loop-i-preserved : goal.loop-i-preserved
@@ -26,7 +26,7 @@ loop-i-preserved c = let a = c.args in
     let i = c.loop-i.i in
     let k = member_in p c.loop-i-test.true in
     let e = left_is p i k c.any_left-left.ensures in
-    filled_more (as_limits a.day.limits) (book_of a.book.now) c.owed_at-owed.result.0 c.any_left-left.result (omega (arith, k, member_few p k)) (c.owed_at-owed.ensures ∙ first_is p i k e) e c.loop-i.invariant
+    filled_more (as_limits a.day.limits) (book_of a.book.now) c.owed_at.result.0 c.any_left-left.result (omega (arith, k, member_few p k)) (c.owed_at.ensures ∙ first_is p i k e) e c.loop-i.invariant
 
 pub returns : goal.returns
 returns c = let a = c.args in

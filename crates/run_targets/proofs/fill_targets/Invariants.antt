@@ -1,4 +1,3 @@
-use Rattle.base.specs.Basics.{◌-◌}
 use Rattle.book_format.specs.Book.{book_of}
 use Rattle.units.specs.Limits.{as_limits}
 use Rattle.run_targets.proofs.First.{FilledTo}
@@ -6,6 +5,3 @@ use Rattle.run_targets.proofs.fill_targets.Given as goal
 
 abbrev pub invariant-loop-i : goal.invariant-loop-i
 invariant-loop-i l = FilledTo (as_limits l.day.limits) (book_of l.book) l.i l.targets l.eligible
-
-abbrev pub decreases-loop-i : goal.decreases-loop-i
-decreases-loop-i l = l.n - l.i

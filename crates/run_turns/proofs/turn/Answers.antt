@@ -28,8 +28,8 @@ any_left-left-requires c = let q = c.requires.run_of.0 in
     let k = c.requires.run_of.1 in
     (part_few q k, left_room q k (reached_now c.requires.ongoing.0.going) _ _ c.reduce-tally.ensures.standing_after)
 
-pub owed_at-owed-requires : goal.owed_at-owed-requires
-owed_at-owed-requires c = let q = c.requires.run_of.0 in
+pub owed_at-requires : goal.owed_at-requires
+owed_at-requires c = let q = c.requires.run_of.0 in
     (run_day q, record { form = q.risk.opened.accepted.held.form; inside = c.requires.run_of.1 }, q.risk.sums_are.low)
 
 pub returns : goal.returns
@@ -41,7 +41,7 @@ returns c = let q = c.requires.run_of.0 in
     let left = c.any_left-left in record {
       turned = λ b h.
           turned q k h c.requires.run_of.2 _ _ r.ensures.cuts_after none.room _ r.ensures.standing_after _ r.ensures.positions_after _ look.result look.ensures.0
-          left.result left.ensures r.result r.ensures.result_value look.ensures.1 c.owed_at-owed.ensures;
+          left.result left.ensures r.result r.ensures.result_value look.ensures.1 c.owed_at.ensures;
       cut_in = (cut_in q k c.requires.ongoing.0.going c.requires.run_of.2 _ _ r.ensures.cuts_after none.room none.none, r.ensures.rests_len, others_stand q k (left_only q k (reached_now c.requires.ongoing.0.going) _ _ r.ensures.standing_after));
     }
 

@@ -1,69 +1,77 @@
 -- `run_long`: what is left of the run, added to the totals so far, is the whole run; what is kept of each user with many sales is that of its sales. Assumes nothing.
-use Rattle.base.specs.Basics.{ap, ◌<◌, arith}
+use Rattle.base.specs.Basics.{ap, ◌<◌, ◌≤◌, arith}
 use Rattle.book_format.specs.Book.{book_of}
 use Rattle.laws.specs.Sound.{Sound}
 use Rattle.rules.specs.Calls.{Answer, answer_of_run}
 use Rattle.run_turns.proofs.Others.{keeps_stand, keeps_start, keeps_turn}
-use Rattle.run_turns.proofs.Rounds.{run_end, run_more, run_ongoing, run_turn, run_within_lem, turn_within}
+use Rattle.run_turns.proofs.Rounds.{run_end, run_more, run_turn, turn_within}
 use Rattle.run_turns.proofs.long.run_long.Goals as goal
-use Rattle.run_turns.proofs.long.run_long.Goals.{In-loop-place, Start}
-
--- the place of the user who is due is one of 64
-low : (l : goal.In-loop-place) → l.loop-place.place < 64
-low l = omega (arith, l.loop-place-test.true, l.requires.run_of.1, l.requires.run_of.0.risk.opened.accepted.held.form.users)
+use Rattle.run_turns.proofs.long.run_long.Goals.{In-Some, Start}
 
 sound : (s : goal.Start) → Sound (book_of s.args.book.now)
 sound s = s.requires.run_of.0.risk.opened.accepted.sound
 
-pub loop-place-init : goal.loop-place-init
-loop-place-init c = (c.requires.run_to.0, keeps_start (omega (arith, c.requires.run_of.1, c.requires.run_of.0.risk.opened.accepted.held.form.users)) c.nothing-nothing.ensures, c.requires.run_to.1)
+-- the user that is due is one of the book's, and the run is long
+in-book : (c : goal.In-Some) → c.in-Some.place < c.args.n
+in-book c = (rw c.in-Some.is at c.loop-next.invariant).many.0
 
-pub next_turn-turned-requires : goal.next_turn-turned-requires
-next_turn-turned-requires c = let p = c.loop-place.invariant in
-    let k = c.loop-place-test.true in
-    let going = run_ongoing c.requires.run_of.1 (sound (goal.at.next_turn-turned-requires c).Start) p.0 in
-    record { run_of = (c.requires.run_of.0, omega (arith, k, c.requires.run_of.1), p.0.here k); ongoing = (going, p.0.none_cut, p.0.rests_room); keeps = p.1.each _ _ k (p.2 k).1 }
+long : (c : goal.In-Some) → 64 ≤ c.loop-next.totals.reductions
+long c = (rw c.in-Some.is at c.loop-next.invariant).many.1
 
-pub with-totals-requires : goal.with-totals-requires
-with-totals-requires c = let p = c.loop-place.invariant.0 in
-    record { within = run_within_lem c.requires.run_of.1 (sound (goal.at.with-totals-requires c).Start) p; mwh_bound = turn_within c.requires.run_of.1 (sound (goal.at.with-totals-requires c).Start) p c.loop-place-test.true (c.next_turn-turned.ensures.turned_some p.book p.going).turned }
+low : (c : goal.In-Some) → c.in-Some.place < 64
+low c = omega (arith, in-book c, c.requires.run_of.1, c.requires.run_of.0.risk.opened.accepted.held.form.users)
 
-pub next_from-next-requires : goal.next_from-next-requires
-next_from-next-requires c = let p = c.loop-place.invariant.0 in
+pub loop-next-init : goal.loop-next-init
+loop-next-init c = record {
+  run = c.requires.run_to.0;
+  keeps = keeps_start (omega (arith, c.requires.run_of.1, c.requires.run_of.0.risk.opened.accepted.held.form.users));
+  many = c.requires.run_to.1;
+}
+
+pub next_turn-turned-requires-clause-keeps : goal.next_turn-turned-requires-clause-keeps
+next_turn-turned-requires-clause-keeps c = let at = (goal.at.next_turn-turned-requires-clause-keeps c).In-Some in
+    c.loop-next.invariant.keeps.each _ _ (in-book at) (rw c.in-Some.is at c.loop-next.invariant).many.2
+
+pub with-totals-requires-clause-mwh_bound : goal.with-totals-requires-clause-mwh_bound
+with-totals-requires-clause-mwh_bound c = let p = (rw c.in-Some.is at c.loop-next.invariant).run in
+    let at = goal.at.with-totals-requires-clause-mwh_bound c in
+    turn_within c.requires.run_of.1 (sound at.Start) p (in-book at.In-Some) (c.next_turn-turned.ensures.turned_some p.book p.going).turned
+
+pub next_from-first-requires : goal.next_from-first-requires
+next_from-first-requires c = let p = (rw c.in-Some.is at c.loop-next.invariant).run in
+    let at = goal.at.next_from-first-requires c in
     let t = (c.next_turn-turned.ensures.turned_some p.book p.going).turned in
-    (omega (arith, c.loop-place-test.true, t.least_most), omega (arith, c.requires.run_of.1, c.requires.run_of.0.risk.opened.accepted.held.form.users))
+    (omega (arith, in-book at.In-Some, t.least_most), omega (arith, c.requires.run_of.1, c.requires.run_of.0.risk.opened.accepted.held.form.users))
 
-pub run_plain-stage-requires : goal.run_plain-stage-requires
-run_plain-stage-requires c = let p = c.loop-place.invariant.0 in
-    let turned = (c.next_turn-turned.ensures.turned_some p.book p.going).turned in
-    record { run_of = c.requires.run_of; run_to = run_turn c.requires.run_of.1 (sound (goal.at.run_plain-stage-requires c).Start) p c.loop-place-test.true turned c.next_turn-turned.ensures.none_cut.0 c.next_turn-turned.ensures.none_cut.1 c.with-totals.ensures c.next_from-next.ensures }
-
-pub loop-place-smaller : goal.loop-place-smaller
-unfolding answer_of_run
-loop-place-smaller c = let more = run_more c.requires.run_of.1 (sound (goal.at.loop-place-smaller c).Start) c.loop-place.invariant.0 c.loop-place-test.true in
-    omega (arith, more, ap (λ (z : Answer). z.reductions) c.with-totals.ensures, c.run_plain-stage.ensures.so_far_bound.0)
-
-pub loop-place-preserved : goal.loop-place-preserved
-unfolding answer_of_run
-loop-place-preserved c = let p = c.loop-place.invariant in
-    let k = c.loop-place-test.true in
-    let more = ap (λ (z : Answer). z.reductions) c.with-totals.ensures in (
-      c.run_plain-stage.ensures.run_to_2,
-      keeps_stand (keeps_turn p.1 c.requires.run_of.1 (low (goal.at.loop-place-preserved c).In-loop-place) c.next_turn-turned.ensures.none_cut.2 c.next_turn-turned.ensures.none_cut.3) (c.run_plain-stage.ensures.so_far_bound.1 (omega (arith, more, (p.2 k).0))),
-      c.run_plain-stage.ensures.so_far_bound.2,
+pub run_plain-stage-requires-clause-run_to : goal.run_plain-stage-requires-clause-run_to
+run_plain-stage-requires-clause-run_to c = let p = (rw c.in-Some.is at c.loop-next.invariant).run in
+    let at = goal.at.run_plain-stage-requires-clause-run_to c in
+    let turned = c.next_turn-turned.ensures in (
+      run_turn c.requires.run_of.1 (sound at.Start) p (in-book at.In-Some) (turned.turned_some p.book p.going).turned turned.none_cut.0 turned.none_cut.1 c.with-totals.ensures c.next_from-first.ensures.first,
+      c.next_from-first.ensures.inside,
     )
 
+pub loop-next-smaller : goal.loop-next-smaller
+unfolding answer_of_run
+loop-next-smaller c = let p = (rw c.in-Some.is at c.loop-next.invariant).run in
+    let at = goal.at.loop-next-smaller c in
+    omega (
+      arith,
+      run_more c.requires.run_of.1 (sound at.Start) p (in-book at.In-Some),
+      ap (λ (z : Answer). z.reductions) c.with-totals.ensures,
+      c.run_plain-stage.ensures.so_far_bound.0,
+    )
+
+pub loop-next-preserved : goal.loop-next-preserved
+unfolding answer_of_run
+loop-next-preserved c = let at = (goal.at.loop-next-preserved c).In-Some in
+    let more = ap (λ (z : Answer). z.reductions) c.with-totals.ensures in
+    let none_cut = c.next_turn-turned.ensures.none_cut in
+    let stage = c.run_plain-stage.ensures in record {
+      run = stage.run_to_2;
+      keeps = keeps_stand (keeps_turn c.loop-next.invariant.keeps c.requires.run_of.1 (low at) none_cut.2 none_cut.3) (stage.so_far_bound.1 (omega (arith, more, long at)));
+      many = stage.so_far_bound.2;
+    }
+
 pub returns : goal.returns
-returns c = run_end c.requires.run_of.1 (sound (goal.at.returns c).Start) c.loop-place.invariant.0 c.loop-place-test.false
-
-pub offset_bounds-kept-place : goal.offset_bounds-kept-place
-offset_bounds-kept-place c = omega (arith, low c)
-
-pub bounds-kept-place : goal.bounds-kept-place
-bounds-kept-place c = omega (arith, low c)
-
-pub offset_bounds-kept-place-in-loop-place : goal.offset_bounds-kept-place-in-loop-place
-offset_bounds-kept-place-in-loop-place c = omega (arith, low (goal.at.offset_bounds-kept-place-in-loop-place c).In-loop-place)
-
-pub bounds-kept-place-in-loop-place : goal.bounds-kept-place-in-loop-place
-bounds-kept-place-in-loop-place c = omega (arith, low (goal.at.bounds-kept-place-in-loop-place c).In-loop-place)
+returns c = run_end c.requires.run_of.1 (sound (goal.at.returns c).Start) (rw c.in_default.is at c.loop-next.invariant).run (omega arith)
