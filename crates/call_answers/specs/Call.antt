@@ -1,14 +1,17 @@
--- The answer of the rules that the code's answer of a guarantee call is. Assumes nothing.
-use Rattle.rules.specs.Calls.{Answer}
-use Rattle.call_answers.specs.declared.CallAnswer.{CallAnswer}
+-- The answer of the rules that a guarantee call, or the refusal in place of it, is. Assumes nothing.
+use Rattle.std.specs.Prelude.{Result, Ok, Err}
+use Rattle.refusals.specs.Refusal.{number_of}
+use Rattle.refusals.specs.declared.Refusal.{Refusal}
+use Rattle.rules.specs.Calls.{Answer, only}
+use Rattle.call_answers.specs.declared.GuaranteeCall.{GuaranteeCall}
 
--- number, level and what was added; a field that a guarantee call does not have is 0
-abbrev pub answer_of : CallAnswer → Answer
-answer_of r =
+-- level and what was added; a field that a guarantee call does not have is 0, and every field where it is refused
+abbrev pub answer_of : Result GuaranteeCall Refusal → Answer
+answer_of (Ok call) =
     record {
-      number = r.number;
-      level = r.level.0;
-      added = r.added.0;
+      number = 0;
+      level = call.level.0;
+      added = call.added.0;
       reductions = 0;
       mwh = 0;
       worth = 0;
@@ -16,3 +19,4 @@ answer_of r =
       short = 0;
       over = 0;
     }
+answer_of (Err refusal) = only (number_of refusal)

@@ -1,18 +1,22 @@
--- The answer of the rules that the code's answer of a reduction is. Assumes nothing.
-use Rattle.rules.specs.Calls.{Answer}
-use Rattle.call_answers.specs.declared.ReductionAnswer.{ReductionAnswer}
+-- The answer of the rules that a reduction, or the refusal in place of it, is. Assumes nothing.
+use Rattle.std.specs.Prelude.{Result, Ok, Err}
+use Rattle.refusals.specs.Refusal.{number_of}
+use Rattle.refusals.specs.declared.Refusal.{Refusal}
+use Rattle.rules.specs.Calls.{Answer, only}
+use Rattle.call_answers.specs.declared.Reduction.{Reduction}
 
--- number, MWh, worth, target, short and over; a field that a reduction does not have is 0
-abbrev pub answer_of : ReductionAnswer → Answer
-answer_of r =
+-- MWh, worth, target, short and over; a field that a reduction does not have is 0, and every field where it is refused
+abbrev pub answer_of : Result Reduction Refusal → Answer
+answer_of (Ok reduction) =
     record {
-      number = r.number;
+      number = 0;
       level = 0;
       added = 0;
       reductions = 0;
-      mwh = r.mwh.0;
-      worth = r.worth.0;
-      target = r.target.0;
-      short = r.short.0;
-      over = r.over.0;
+      mwh = reduction.mwh.0;
+      worth = reduction.worth.0;
+      target = reduction.target.0;
+      short = reduction.short.0;
+      over = reduction.over.0;
     }
+answer_of (Err refusal) = only (number_of refusal)

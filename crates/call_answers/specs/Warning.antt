@@ -1,8 +1,11 @@
--- The reply of the rules that the code's warning is. Assumes nothing.
+-- The reply of the rules that a warning, or the refusal in place of it, is. Assumes nothing.
+use Rattle.std.specs.Prelude.{Bool, false, Result, Ok, Err}
 use Rattle.std.proofs.Math.Option.{none}
+use Rattle.refusals.specs.Refusal.{number_of}
+use Rattle.refusals.specs.declared.Refusal.{Refusal}
 use Rattle.rules.specs.Queries.{Reply}
-use Rattle.call_answers.specs.declared.WarningAnswer.{WarningAnswer}
 
 -- number and warning; no level, and no record is shown
-abbrev pub reply_of : WarningAnswer → Reply
-reply_of r = record { number = r.number; level = 0; warned = r.warned; shown = none }
+abbrev pub reply_of : Result Bool Refusal → Reply
+reply_of (Ok warned) = record { number = 0; level = 0; warned = warned; shown = none }
+reply_of (Err refusal) = record { number = number_of refusal; level = 0; warned = false; shown = none }

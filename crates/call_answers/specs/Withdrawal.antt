@@ -1,18 +1,22 @@
--- The answer of a withdrawal as the rules' answer. Assumes nothing.
-use Rattle.rules.specs.Calls.{Answer}
-use Rattle.call_answers.specs.declared.WithdrawalAnswer.{WithdrawalAnswer}
+-- The answer of a withdrawal, or of the refusal in place of it, as the rules' answer. Assumes nothing.
+use Rattle.std.specs.Prelude.{Result, Ok, Err}
+use Rattle.refusals.specs.Refusal.{number_of}
+use Rattle.refusals.specs.declared.Refusal.{Refusal}
+use Rattle.rules.specs.Calls.{Answer, only}
+use Rattle.cut_worth.specs.declared.Tally.{Tally}
 
--- number, MWh and worth; a field that a withdrawal does not have is 0
-abbrev pub withdrawal_of : WithdrawalAnswer → Answer
-withdrawal_of r =
+-- MWh and worth; a field that a withdrawal does not have is 0, and every field where it is refused
+abbrev pub withdrawal_of : Result Tally Refusal → Answer
+withdrawal_of (Ok tally) =
     record {
-      number = r.number;
+      number = 0;
       level = 0;
       added = 0;
       reductions = 0;
-      mwh = r.mwh.0;
-      worth = r.worth.0;
+      mwh = tally.mwh.0;
+      worth = tally.worth.0;
       target = 0;
       short = 0;
       over = 0;
     }
+withdrawal_of (Err refusal) = only (number_of refusal)

@@ -1,7 +1,6 @@
 -- The ways out of a whole cancellation: refused by the opening questions, by 25, by 8, by a question on the user's level, by 14 or by 24, or done. Assumes nothing.
-use Rattle.base.proofs.Tests.{and_l, and_r}
-use Rattle.base.specs.Basics.{◌≡◌, refl, sym, ap, ◌∙◌, Bool, true, false, cond, ◌||◌, List, [], ◌∷◌, ◌++◌, ℕ, zero, suc, ◌+◌, ◌-◌, ◌^◌, ◌≤◌}
-use Rattle.base.specs.Basics.{◌<◌, arith, leb, get_or, take, le-leb, leb→le, lt-leb}
+use Rattle.base.specs.Basics.{◌≡◌, refl, sym, ap, ◌∙◌, ◌⊎◌, inl, inr, Bool, true, false, cond, ◌||◌, List, [], ◌∷◌, ◌++◌, ℕ, zero, suc, ◌+◌, ◌^◌, ◌≤◌}
+use Rattle.base.specs.Basics.{◌<◌, arith, get_or, take, le-leb, lt-leb}
 use Rattle.call_questions.proofs.Asked.{level_passed, level_refused}
 use Rattle.call_questions.specs.Asked.{ShortfallOf, level_questions}
 use Rattle.cut_sets.proofs.Places.{place_search_lem, worths_sum}
@@ -23,7 +22,7 @@ use Rattle.rules.specs.Questions.{Question, after, first_of, refusal}
 use Rattle.rules.specs.Reduction.{eligible, has_eligible, target}
 use Rattle.call_cancellation.specs.Call.{on_sales, on_user}
 use Rattle.call_cancellation.specs.Sales.{Worths, unmarked}
-use Rattle.laws.proofs.Refusals.{after-append, after_first, after_nonzero, first_yes, first_zero, second_zero}
+use Rattle.laws.proofs.Refusals.{after-append, after_first, after_nonzero}
 
 -- ---- the user's eligible trades
 
@@ -104,18 +103,15 @@ tries_asked before tries = first_of before (refusal (tries_in_range tries ∷ []
 pub tries_refused : (before tries : ℕ) → (before ≡ 0 → ⊥) → before ≡ tries_asked before tries
 tries_refused before tries h = sym (after_nonzero (λ k. k) (refusal (tries_in_range tries ∷ [])) h)
 
-module _ (before tries : ℕ) (e : before ≡ 0) where
-  pub tries_below : tries < 1 → 25 ≡ tries_asked before tries
+module _ (tries : ℕ) where
+  pub tries_outside : (tries < 1) ⊎ ((1 ≤ tries) × (65535 < tries)) → 25 ≡ tries_asked 0 tries
   unfolding after refusal tries_in_range
-  tries_below h = rw (e, lt-leb 1 tries h)
+  tries_outside (inl h) = rw (lt-leb 1 tries h)
+  tries_outside (inr h) = rw (le-leb 1 tries h.0, lt-leb tries 65535 h.1)
 
-  pub tries_above : 65535 < tries → 25 ≡ tries_asked before tries
+  pub tries_within : 1 ≤ tries → tries ≤ 65535 → 0 ≡ tries_asked 0 tries
   unfolding after refusal tries_in_range
-  tries_above h = rw (e, le-leb 1 tries (omega arith), lt-leb tries 65535 h)
-
-  pub tries_within : 1 ≤ tries → tries ≤ 65535 → 0 ≡ tries_asked before tries
-  unfolding after refusal tries_in_range
-  tries_within h k = rw (e, le-leb 1 tries h, le-leb tries 65535 k)
+  tries_within h k = rw (le-leb 1 tries h, le-leb tries 65535 k)
 
 -- what is asked after them
 after_tries : {R : Type 0} (f : ℕ → R) (x : R) (before tries : ℕ) (rest : List Question)
@@ -123,16 +119,6 @@ after_tries : {R : Type 0} (f : ℕ → R) (x : R) (before tries : ℕ) (rest : 
 after_tries f x before tries rest =
     let first = tries_in_range tries ∷ [] in
     ap (after before f) (after-append first rest f x) ∙ sym (after_first before (refusal first) f (after (refusal rest) f x))
-
--- where none of them refuses, the tries are in range, and the opening questions passed
-pub tries_passed : (before tries : ℕ) → tries_asked before tries ≡ 0 → (before ≡ 0) × (0 < tries) × (tries < 65536)
-unfolding tries_in_range
-tries_passed before tries e =
-    let number = refusal (tries_in_range tries ∷ []) in
-    let h = (first_yes (tries_in_range tries) [] (second_zero before number e) tt).0 in
-    let low = leb→le 1 tries (and_l (leb 1 tries) (leb tries 65535) h) in
-    let high = leb→le tries 65535 (and_r (leb 1 tries) (leb tries 65535) h) in
-    (first_zero before number e, omega arith, omega arith)
 
 module _ (before : ℕ) (limits : Limits) (s : List ℕ) (id tries : ℕ) where
   abbrev user : User
@@ -152,9 +138,9 @@ module _ (before : ℕ) (limits : Limits) (s : List ℕ) (id tries : ℕ) where
   unfolding cancellation_after
   entering = rw own (after_tries not_cancelled (cancelled limits (book_of s) user tries) before tries (id_known (book_of s) id ∷ rest))
 
-  pub call_unentered : {m n place : ℕ} → m ≡ tries_asked before tries → entered.Entered m s id n place → (n ≡ 0 → ⊥) → cancellation_after before limits s id tries ≡ not_cancelled n
+  pub call_unentered : {m n : ℕ} → m ≡ tries_asked before tries → n ≡ first_of m (refusal (id_known (book_of s) id ∷ [])) → (n ≡ 0 → ⊥) → cancellation_after before limits s id tries ≡ not_cancelled n
   call_unentered {m} {n} z e h =
-      entering ∙ entry_refused s id rest not_cancelled (cancelled limits (book_of s) user tries) (tries_asked before tries) n (rw z at e.asked) h
+      entering ∙ entry_refused s id rest not_cancelled (cancelled limits (book_of s) user tries) (tries_asked before tries) n (rw z at e) h
 
   -- the user that the entry found stands at the place
   pub call_entered_lem : {place : ℕ} → tries_asked before tries ≡ 0 → entered.Found s id place → cancellation_after before limits s id tries ≡ on_user limits (book_of s) (get_or (users_of s) place nobody) tries

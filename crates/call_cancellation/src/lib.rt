@@ -3,7 +3,10 @@
 // which begin at `at`, and `sellers` and `buyers` have the places of those who bear the risk of their sellers and of their buyers.
 #![tactic(auto)]
 
-ghost use Rattle.std.specs.Prelude.{cond, not, ◌&&◌, [], ◌∷◌, ◌≡◌, ◌*◌, ◌/◌, ◌%◌, ◌≤◌, ◌<◌, eqb, ltb, get_or, replicate};
+ghost use Rattle.std.specs.Prelude.{cond, not, ◌&&◌, [], ◌∷◌, ◌≡◌, ◌*◌, ◌/◌, ◌%◌, ◌≤◌, ◌<◌, eqb, ltb};
+ghost use Rattle.std.specs.Prelude.{get_or, replicate, IfOk, Ok};
+ghost use Rattle.refusals.specs.Refusal.{number_in};
+ghost use Rattle.store.specs.Asked.{figures_in};
 ghost use Rattle.book_format.specs.Book.{book_of, count_of_trades, trades_at, trades_of, count_of_users, users_of};
 ghost use Rattle.book_format.specs.Places.{TradeIn};
 ghost use Rattle.units.specs.Limits.{as_limits};
@@ -18,7 +21,9 @@ ghost use Rattle.call_answers.specs.Cancellation.{cancellation_of};
 ghost use Rattle.call_cancellation.specs.Call.{on_sales, on_user};
 ghost use Rattle.call_cancellation.specs.Sales.{Selling, Worths, sets_of, unmarked};
 
-use call_answers::CancellationAnswer;
+use call_answers::Cancellation;
+use call_entry::Entry;
+use refusals::Refusal;
 use risk_user::Day;
 use units::{Area, Cents, Limits, Prices};
 
@@ -49,12 +54,12 @@ fn worth_at(book: &[u8], at: usize, i: usize, prices: Prices) -> u64
     ensures upper_bound { result ≤ 10000000000 }
 {
     let t = book_format::trade_at(book, at, i);
-    let area = t.area;
-    let worth = Area(area).tariff(prices).worth(t.standing.energy());
+    let worth = Area(t.area).tariff(prices).worth(t.standing.energy());
     worth.0
 }
 
-// Fills in the worths of the eligible trades of the user at a place, in book order; gives the number of them.
+// Fills in the worths of the eligible trades of the user at a place, in book order; gives the number of them. They are in an array of fixed
+// size with their number beside it, since nothing here takes memory from a heap.
 fn fill_worths(
     book: &[u8],
     at: usize,
@@ -70,14 +75,12 @@ fn fill_worths(
     ensures { Worths (book_of book.now) (get_or (users_of book.now) place nobody) result worths.new }
 {
     let mut k = 0;
-    let mut i = 0;
-    while i < m {
+    for i in 0..m {
         worths[k] = worth_at(book, at, i, prices);
         k = cut_lists::place_after(
             k,
             eligible_at(book, at, i, bearing_sellers[i], bearing_buyers[i], place),
         );
-        i += 1;
     }
     k
 }
@@ -95,10 +98,7 @@ fn is_marked(eligible: bool, left: usize) -> bool
 fn left_before(eligible: bool, left: usize) -> usize
     ensures { result ≡ cond eligible (left / 2) left }
 {
-    if eligible {
-        return left / 2;
-    }
-    left
+    if eligible { left / 2 } else { left }
 }
 
 // The marks, by trade place, of all eligible trades of the user at a place but those left out, whose lowest bit is the last of them.
@@ -116,9 +116,7 @@ fn marks_of(
 {
     let mut marks = [false; 256];
     let mut rest = left;
-    let mut i = m;
-    while 0 < i {
-        i -= 1;
+    for i in (0..m).rev() {
         let eligible = eligible_at(book, at, i, bearing_sellers[i], bearing_buyers[i], place);
         marks[i] = is_marked(eligible, rest);
         rest = left_before(eligible, rest);
@@ -141,7 +139,7 @@ fn cancel_among(
     prices: Prices,
     tries: u32,
     worths: &mut [u64; 256],
-) -> CancellationAnswer
+) -> Result<Cancellation, Refusal>
     requires selling { Selling at m book.now bearing_sellers.now bearing_buyers.now place × (worths.old ≡ replicate 256 0) }
     requires in_range { InRange (as_prices prices) × (as_prices prices ≡ (book_of book.now).header.prices) }
     requires tries_nonzero { (0 < tries) × (tries < 65536) }
@@ -158,11 +156,11 @@ fn cancel_among(
         worths,
     );
     if count == 0 {
-        return CancellationAnswer::refused(14);
+        return Err(Refusal::NothingToCut);
     }
     let together = cut_sets::total(worths, count);
     if together < asked.0 {
-        return CancellationAnswer::refused(24);
+        return Err(Refusal::TargetOutOfReach);
     }
     let found = cut_sets::search(worths, count, together, asked.0, tries as usize);
     let marks = marks_of(
@@ -174,13 +172,12 @@ fn cancel_among(
         place,
         found.left,
     );
-    CancellationAnswer {
-        number: 0,
-        marks: marks,
+    Ok(Cancellation {
+        marks,
         excess: Cents(found.excess),
         tries: found.tries,
         complete: found.complete,
-    }
+    })
 }
 
 // Asks the questions 14 and 24 of the user at a place and cancels whole trades for an amount.
@@ -192,7 +189,7 @@ fn cancel_sales(
     asked: Cents,
     prices: Prices,
     tries: u32,
-) -> CancellationAnswer
+) -> Result<Cancellation, Refusal>
     requires selling { Selling (trades_at book.now) (count_of_trades book.now) book.now bearing_sellers.now bearing_buyers.now place }
     requires in_range { InRange (as_prices prices) × (as_prices prices ≡ (book_of book.now).header.prices) }
     requires tries_nonzero { (0 < tries) × (tries < 65536) }
@@ -225,13 +222,13 @@ fn cancel_user(
     place: usize,
     day: Day,
     tries: u32,
-) -> CancellationAnswer
+) -> Result<Cancellation, Refusal>
     requires runnable { Runnable (as_limits day.limits) (as_prices day.prices) book.now bearing_sellers.now bearing_buyers.now sums.now × (place < count_of_users book.now) }
     requires tries_nonzero { (0 < tries) × (tries < 65536) }
     ensures { cancellation_of result ≡ on_user (as_limits day.limits) (book_of book.now) (get_or (users_of book.now) place nobody) tries }
 {
     let mut positions = [0u32; 192];
-    let shortfall = call_questions::shortfall_at(
+    let target = call_questions::shortfall_at(
         book,
         bearing_sellers,
         bearing_buyers,
@@ -239,12 +236,7 @@ fn cancel_user(
         &mut positions,
         place,
         day,
-    );
-    let number = shortfall.number;
-    if number != 0 {
-        return CancellationAnswer::refused(number);
-    }
-    let target = shortfall.target;
+    )?;
     cancel_sales(
         book,
         bearing_sellers,
@@ -256,45 +248,35 @@ fn cancel_user(
     )
 }
 
-// Question 25, after the opening questions: their number where one is answered by no.
-fn ask_tries(number: u32, tries: u32) -> u32
-    ensures { result ≡ first_of number (refusal (tries_in_range tries ∷ [])) }
+// Question 25, after the opening questions: what one of them refused stays refused.
+fn ask_tries(opened: Result<Limits, Refusal>, tries: u32) -> Result<Limits, Refusal>
+    ensures asked { number_in result ≡ first_of (number_in opened) (refusal (tries_in_range tries ∷ [])) }
+    ensures in_range { IfOk result (λ limits. (opened ≡ Ok limits) × (0 < tries) × (tries < 65536)) }
 {
-    if number != 0 {
-        return number;
+    let limits = opened?;
+    if tries < 1 || 65535 < tries {
+        return Err(Refusal::TriesOutOfRange);
     }
-    if tries < 1 {
-        return 25;
-    }
-    if 65535 < tries {
-        return 25;
-    }
-    0
+    Ok(limits)
 }
 
-// The whole cancellation for the user of an id with a number of tries, after the opening questions, whose number is given with the places
-// of the trades' parties and the sums of the users, which become the sums as the risk is borne.
+// The whole cancellation for the user of an id with a number of tries, after the opening questions, whose refusal or figures are given
+// with the places of the trades' parties and the sums of the users, which become the sums as the risk is borne.
 pub fn cancellation(
     book: &[u8],
-    number: u32,
-    limits: Limits,
+    opened: Result<Limits, Refusal>,
     sellers: &[u8; 256],
     buyers: &[u8; 256],
     sums: &mut [u32; 768],
     id: u32,
     tries: u32,
-) -> CancellationAnswer
-    requires { number ≡ 0 → Opened (as_limits limits) book.now sellers.now buyers.now sums.old }
-    ensures { cancellation_of result ≡ cancellation_after number (as_limits limits) book.now id tries }
+) -> Result<Cancellation, Refusal>
+    requires { IfOk opened (λ limits. Opened (as_limits limits) book.now sellers.now buyers.now sums.old) }
+    ensures { cancellation_of result ≡ cancellation_after (number_in opened) (figures_in opened) book.now id tries }
 {
-    let entry = call_entry::seek(book, ask_tries(number, tries), id);
-    let number = entry.number;
-    let place = entry.place;
-    if number != 0 {
-        return CancellationAnswer::refused(number);
-    }
+    let Entry { limits, place } = call_entry::seek(book, ask_tries(opened, tries), id)?;
     let day = Day {
-        limits: limits,
+        limits,
         prices: book_header::read_prices(book),
     };
     let mut bearing_sellers = [0u8; 256];

@@ -1,6 +1,10 @@
 -- The ways out of the two calls. Assumes nothing.
-use Rattle.base.specs.Basics.{◌≡◌, refl, ap, ◌∙◌, true, false, List, ◌++◌, ℕ, ◌+◌, ◌<◌, ◌≤◌, mul-le-mul_left, arith, T, eqb, length, take, drop}
-use Rattle.base.specs.Basics.{length-append, length-drop, take_at, take-length}
+use Rattle.base.specs.Basics.{◌≡◌, refl, sym, ap, ◌∙◌, Bool, true, false, List, ◌++◌, ℕ, ◌<◌, ◌≤◌, mul-le-mul_left, arith, T, eqb, length, take, drop}
+use Rattle.base.specs.Basics.{length-append, length-drop, ne_eqb, take_at, take-length}
+use Rattle.std.specs.Prelude.{Ok, Err, Result, is_ok}
+use Rattle.refusals.specs.Refusal.{number_in, number_of}
+use Rattle.refusals.specs.declared.Refusal.{Refusal}
+use Rattle.refusals.proofs.Numbers.{refused-nonzero}
 use Rattle.base.proofs.Tests.{holds}
 use Rattle.book_format.specs.Book.{mark, trades_at, place_of_user, count_of_users, version_of}
 use Rattle.book_format.specs.Questions.{book_number}
@@ -53,19 +57,24 @@ rebuilt_fits f room {part} e q =
     let same : length part ≡ length f = ap length q ∙ length_rearranged (shaped_laid f (holds e)) true 0x42_44_47 in
     rw length-append (omega arith)
 
+-- a book passes the questions where they have no number
+pub passes_number : {A : Type 0} (asked : Result A Refusal) → is_ok asked ≡ eqb (number_in asked) 0
+passes_number (Ok value) = refl
+passes_number (Err refusal) = sym (ne_eqb (number_of refusal) 0 (refused-nonzero refusal))
+
 pub rebuilt_not : (f room : List ℕ) → shaped f ≡ false → Rebuilt f false room
 unfolding yields
 rebuilt_not f room e = record { answer = rw e; fits = λ t. absurd t; book = λ t. absurd t }
 
-pub rebuilt : (f room : List ℕ) {part : List ℕ} {number : ℕ} → shaped f ≡ true → length room ≡ longest → part ≡ rearranged true 0x42_44_47 f
-    → number ≡ book_number (take (length f) (part ++ drop (length f) room)) → Rebuilt f (eqb number 0) (part ++ drop (length f) room)
+pub rebuilt : (f room : List ℕ) {part : List ℕ} {number : ℕ} {passes : Bool} → shaped f ≡ true → length room ≡ longest → part ≡ rearranged true 0x42_44_47 f
+    → number ≡ book_number (take (length f) (part ++ drop (length f) room)) → passes ≡ eqb number 0 → Rebuilt f passes (part ++ drop (length f) room)
 unfolding yields book_from mark
-rebuilt f room {part} {number} e k q n =
+rebuilt f room {part} {number} e k q n p =
     let l = shaped_laid f (holds e) in
     let same : length part ≡ length f = ap length q ∙ length_rearranged l true 0x42_44_47 in
     let front = take_at part (drop (length f) room) (length f) same in
     record {
-      answer = rw (e, n, front, q) refl;
+      answer = rw (p, e, n, front, q) refl;
       fits = λ t. rw (length-append, length-drop) (omega (arith, shaped_fits f (holds e)));
       book = λ t. front ∙ q;
     }

@@ -4,28 +4,28 @@
 
 ghost use Rattle.std.specs.Prelude.{◌≡◌, length};
 ghost use Rattle.book_format.specs.Questions.{book_number};
+ghost use Rattle.refusals.specs.Refusal.{number_in};
 ghost use Rattle.outputs.specs.Output.{Wrote};
 ghost use Rattle.book_columns.specs.Calls.{restored, stored_after};
 ghost use Rattle.call_columns.specs.Rebuilt.{longest, Rebuilt};
 
+use refusals::Refusal;
+
 // The bytes of the longest book.
 const LONGEST: usize = 9512;
 
-// Writes the form of a book whose opening questions have this number to the front of an output, and answers 0; or the number of the first
-// question that is answered by no.
-pub fn form(book: &[u8], number: u32, out: &mut [u8]) -> u32
-    requires { number ≡ 0 → book_number book.now ≡ 0 }
-    ensures { Wrote (stored_after number book.now out.old) result out.new }
+// Writes the form of a book whose opening questions were asked to the front of an output; the first question answered by no refuses it.
+pub fn form(book: &[u8], opened: Result<(), Refusal>, out: &mut [u8]) -> Result<(), Refusal>
+    requires { number_in opened ≡ 0 → book_number book.now ≡ 0 }
+    ensures { Wrote (stored_after (number_in opened) book.now out.old) (number_in result) out.new }
 {
-    if number != 0 {
-        return number;
-    }
+    opened?;
     let size = book.len();
     if out.len() < size {
-        return 30;
+        return Err(Refusal::FormOutputTooShort);
     }
     book_columns::rearrange(book, false, 0x46_44_47, &mut out[..size]);
-    0
+    Ok(())
 }
 
 // Does a form yield an accepted book? Where it does, the book stands at the front of the room afterwards.
@@ -38,28 +38,30 @@ fn rebuild(form: &[u8], room: &mut [u8]) -> bool
     }
     let size = form.len();
     book_columns::rearrange(form, true, 0x42_44_47, &mut room[..size]);
-    book_questions::number(&room[..size]) == 0
+    let asked = book_questions::check(&room[..size]);
+    asked.is_ok()
 }
 
-// Writes the book of a form to the front of an output by way of a room for the longest book, and answers 0; or 29 or 30.
-fn restore_by(form: &[u8], room: &mut [u8], out: &mut [u8]) -> u32
+// Writes the book of a form to the front of an output by way of a room for the longest book; a form that yields none, or an output that is
+// too short, is refused.
+fn restore_by(form: &[u8], room: &mut [u8], out: &mut [u8]) -> Result<(), Refusal>
     requires { length room.old ≡ longest }
-    ensures { Wrote (restored form.now out.old) result out.new }
+    ensures { Wrote (restored form.now out.old) (number_in result) out.new }
 {
     if !rebuild(form, room) {
-        return 29;
+        return Err(Refusal::InvalidForm);
     }
     let size = form.len();
     if out.len() < size {
-        return 30;
+        return Err(Refusal::FormOutputTooShort);
     }
     out[..size].copy_from_slice(&room[..size]);
-    0
+    Ok(())
 }
 
 // The same, in a room of its own.
-pub fn restore(form: &[u8], out: &mut [u8]) -> u32
-    ensures { Wrote (restored form.now out.old) result out.new }
+pub fn restore(form: &[u8], out: &mut [u8]) -> Result<(), Refusal>
+    ensures { Wrote (restored form.now out.old) (number_in result) out.new }
 {
     let mut room = [0u8; LONGEST];
     restore_by(form, &mut room, out)

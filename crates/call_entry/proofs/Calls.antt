@@ -1,10 +1,10 @@
--- A call and a query on a user, by what the entry found: refused with its number, or by the questions that are its own. Assumes nothing.
-use mathlib.Core.List.{List, ◌∷◌}
+-- A call and a query on a user, by what the entry gave: refused with its number, or by the questions that are its own. Assumes nothing.
+use mathlib.Core.List.{List, [], ◌∷◌}
 use mathlib.Core.Path.{◌≡◌, ◌∙◌, ap, sym}
 use Prim.Native.Nat.{ℕ}
 use lib.ListN.{get_or}
 use Rattle.call_entry.proofs.Asked.{entry_found, entry_refused}
-use Rattle.call_entry.specs.Entered.{Entered, Found}
+use Rattle.call_entry.specs.Entered.{Found}
 use Rattle.book_format.proofs.OneUser.{find_place}
 use Rattle.book_format.proofs.Passed.{passed}
 use Rattle.book_format.specs.After.{CalledAfter}
@@ -15,7 +15,7 @@ use Rattle.rules.specs.Book.{find, nobody}
 use Rattle.rules.specs.Calls.{Answer, Call, Result, about, call_after, effect, id_known, only, result_in, unchanged}
 use Rattle.rules.specs.Levels.{Limits}
 use Rattle.rules.specs.Queries.{Query, about_query, found, only_number, reply_after}
-use Rattle.rules.specs.Questions.{Question, after, refusal}
+use Rattle.rules.specs.Questions.{Question, after, first_of, refusal}
 
 -- what a call gives is its contract
 pub called : {before : ℕ} {limits : Limits} {s t : List ℕ} {a x : Answer} (c : Call) → a ≡ x → call_after in_bytes before limits s c ≡ record { answer = x; book = t } → CalledAfter before limits s c a t
@@ -25,9 +25,9 @@ module _ (before : ℕ) (limits : Limits) (s : List ℕ) (id : ℕ) (rest : List
   -- ---- a call
 
   module _ (c : Call) (own : about limits (book_of s) c ≡ id_known (book_of s) id ∷ rest) where
-    pub call_refused : {n place : ℕ} → Entered before s id n place → (n ≡ 0 → ⊥) → call_after in_bytes before limits s c ≡ record { answer = only n; book = s }
+    pub call_refused : {n : ℕ} → n ≡ first_of before (refusal (id_known (book_of s) id ∷ [])) → (n ≡ 0 → ⊥) → call_after in_bytes before limits s c ≡ record { answer = only n; book = s }
     unfolding call_after unchanged
-    call_refused {n} e h = rw own (entry_refused s id rest (unchanged s) (result_in in_bytes (effect limits (book_of s) c)) before n e.asked h)
+    call_refused {n} e h = rw own (entry_refused s id rest (unchanged s) (result_in in_bytes (effect limits (book_of s) c)) before n e h)
 
     pub call_found : {place : ℕ} → before ≡ 0 → Found s id place
         → call_after in_bytes before limits s c ≡ after (refusal rest) (λ n. record { answer = only n; book = s }) (result_in in_bytes (effect limits (book_of s) c))
@@ -37,9 +37,9 @@ module _ (before : ℕ) (limits : Limits) (s : List ℕ) (id : ℕ) (rest : List
   -- ---- a query
 
   module _ (q : Query) (own : about_query (book_of s) q ≡ id_known (book_of s) id ∷ rest) where
-    pub query_refused : {n place : ℕ} → Entered before s id n place → (n ≡ 0 → ⊥) → reply_after before limits (book_of s) q ≡ only_number n
+    pub query_refused : {n : ℕ} → n ≡ first_of before (refusal (id_known (book_of s) id ∷ [])) → (n ≡ 0 → ⊥) → reply_after before limits (book_of s) q ≡ only_number n
     unfolding reply_after
-    query_refused {n} e h = rw own (entry_refused s id rest only_number (found limits (book_of s) q) before n e.asked h)
+    query_refused {n} e h = rw own (entry_refused s id rest only_number (found limits (book_of s) q) before n e h)
 
     pub query_found : {place : ℕ} → before ≡ 0 → Found s id place → reply_after before limits (book_of s) q ≡ after (refusal rest) only_number (found limits (book_of s) q)
     unfolding reply_after after

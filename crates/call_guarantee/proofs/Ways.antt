@@ -1,9 +1,9 @@
 -- The ways out of a guarantee call: refused by the entry, by a question of its own, or answered. Assumes nothing.
-use Rattle.base.specs.Basics.{◌≡◌, refl, sym, ap, ◌∙◌, Bool, true, false, false≢true, ◌&&◌, List, ◌∷◌, ℕ, ◌-◌, ◌≤◌, ◌<◌, get_or, sets, eq-eqb, ne_eqb}
+use Rattle.base.specs.Basics.{◌≡◌, refl, sym, ap, ◌∙◌, Bool, true, false, false≢true, ◌&&◌, List, [], ◌∷◌, ℕ, ◌-◌, ◌≤◌, ◌<◌, get_or, sets, eq-eqb, ne_eqb}
 use Rattle.base.specs.Basics.{le-leb, lt-leb}
 use Rattle.rules.specs.Book.{Book, User, find, nobody}
 use Rattle.rules.specs.Levels.{Limits, shipper, exceeds_its_margin}
-use Rattle.rules.specs.Questions.{Question, after, refusal}
+use Rattle.rules.specs.Questions.{Question, after, first_of, refusal}
 use Rattle.rules.specs.Calls.{about, assigned_suffices, call_after, called_in_beyond_margin, effect, guaranteed, id_known, is_shipper, margin_exceeded, of_level, only, result_in, unchanged}
 use Rattle.rules.specs.Changes.{blocked_to}
 use Rattle.fields.specs.Field.{AllBytes}
@@ -13,7 +13,7 @@ use Rattle.book_format.specs.Book.{book_of, place_of_user, users_of}
 use Rattle.book_format.specs.Steps.{in_bytes}
 use Rattle.book_format.proofs.OneUser.{changed_bytes}
 use Rattle.book_format.proofs.Passed.{passed}
-use Rattle.call_entry.specs.Entered.{Entered, Found}
+use Rattle.call_entry.specs.Entered.{Found}
 use Rattle.call_entry.proofs.Calls.{call_found, call_refused, found_at}
 use Rattle.call_level.specs.Times.{level_of_user}
 use Rattle.call_guarantee.specs.Times.{due_of, call_of}
@@ -83,7 +83,7 @@ module _ (before : ℕ) (limits : Limits) (s : List ℕ) (id : ℕ) (afternoon :
   abbrev rest : List Question
   rest = is_shipper user ∷ last_questions due level user
 
-  pub call_unentered : {n place : ℕ} → Entered before s id n place → (n ≡ 0 → ⊥) → call_after in_bytes before limits s (call_of afternoon id) ≡ record { answer = only n; book = s }
+  pub call_unentered : {n : ℕ} → n ≡ first_of before (refusal (id_known (book_of s) id ∷ [])) → (n ≡ 0 → ⊥) → call_after in_bytes before limits s (call_of afternoon id) ≡ record { answer = only n; book = s }
   call_unentered e h = call_refused before limits s id rest (call_of afternoon id) (call_asks limits (book_of s) id afternoon) e h
 
   module _ {place : ℕ} (o : before ≡ 0) (f : Found s id place) where

@@ -2,7 +2,9 @@
 // the day go one way, with the level of the time.
 #![tactic(auto)]
 
-ghost use Rattle.std.specs.Prelude.{true, ◌≡◌, ◌<◌, get_or};
+ghost use Rattle.std.specs.Prelude.{true, ◌≡◌, ◌<◌, get_or, IfOk};
+ghost use Rattle.refusals.specs.Refusal.{number_in};
+ghost use Rattle.store.specs.Asked.{figures_in};
 ghost use Rattle.units.specs.Limits.{as_limits};
 ghost use Rattle.book_records.specs.User.{alone, as_amounts, as_user};
 ghost use Rattle.book_format.specs.After.{CalledAfter};
@@ -17,7 +19,9 @@ ghost use Rattle.call_guarantee.specs.Times.{due_of, call_of};
 ghost use Rattle.call_guarantee.specs.Raised.{called_at, raised};
 
 use book_records::User;
-use call_answers::CallAnswer;
+use call_answers::GuaranteeCall;
+use call_entry::Entry;
+use refusals::Refusal;
 use risk_holdings::Holdings;
 use units::{Cents, Limits, Net};
 
@@ -39,8 +43,7 @@ fn is_due(
     requires user_value { (as_user user ≡ alone (get_or (users_of book.now) place nobody)) × (as_amounts position ≡ (get_or (users_in book.now) place nobody).position) }
     ensures { result ≡ due_of afternoon (as_limits limits) (book_of book.now) level.0 (get_or (users_of book.now) place nobody) }
 {
-    let blocked = user.blocked;
-    if !risk_levels::exceeds_margin(limits, level, blocked) {
+    if !risk_levels::exceeds_margin(limits, level, user.blocked) {
         return false;
     }
     if afternoon {
@@ -55,34 +58,37 @@ fn is_due(
             bearing_buyers,
             place,
         );
-        return risk_levels::called_in(limits, prices, blocked, position, below_notified);
+        risk_levels::called_in(limits, prices, user.blocked, position, below_notified)
+    } else {
+        true
     }
-    true
 }
 
 // The end of a call on the user at a place, with its level and the answer to question 11: asks question 12, and raises the user's record in
 // the book.
-fn raise(book: &mut [u8], place: usize, user: User, level: Cents, due: bool) -> CallAnswer
+fn raise(
+    book: &mut [u8],
+    place: usize,
+    user: User,
+    level: Cents,
+    due: bool,
+) -> Result<GuaranteeCall, Refusal>
     requires { UserIn book.old place }
     ensures result_value { answer_of result ≡ (raised book.old place (as_user user) level.0 due).answer }
     ensures book_after { book.new ≡ (raised book.old place (as_user user) level.0 due).book }
 {
-    let assigned = user.assigned;
     if !due {
-        return CallAnswer::refused(11);
+        return Err(Refusal::NotDue);
     }
-    if assigned.0 < level.0 {
-        return CallAnswer::refused(12);
+    if user.assigned.0 < level.0 {
+        return Err(Refusal::AssignedTooLow);
     }
     let blocking = lent_user::blocked_user(user, level);
-    let guaranteed = blocking.user;
-    let added = blocking.added;
-    book_format::put_user(book, place, guaranteed);
-    CallAnswer {
-        number: 0,
-        level: level,
-        added: added,
-    }
+    book_format::put_user(book, place, blocking.user);
+    Ok(GuaranteeCall {
+        level,
+        added: blocking.added,
+    })
 }
 
 // The guarantee call on the shipper at a place, whose record was read, by what it holds as its risk is borne; in the afternoon with the
@@ -96,19 +102,12 @@ fn call_at(
     holdings: Holdings,
     limits: Limits,
     afternoon: bool,
-) -> CallAnswer
+) -> Result<GuaranteeCall, Refusal>
     requires opened_figures { OpenedFigures (as_limits limits) book.old × (afternoon ≡ true → BorneIn book.old bearing_sellers.now bearing_buyers.now) × (place < count_of_users book.old) }
     requires user_value { (as_user user ≡ alone (get_or (users_of book.old) place nobody)) × HoldingsOf book.old place holdings }
     ensures result_value { answer_of result ≡ (called_at afternoon (as_limits limits) book.old place).answer }
     ensures book_after { book.new ≡ (called_at afternoon (as_limits limits) book.old place).book }
 {
-    let pvb = holdings.pvb;
-    let tvb = holdings.tvb;
-    let avb = holdings.avb;
-    let x = pvb.position;
-    let y = tvb.position;
-    let z = avb.position;
-    let position = [x, y, z];
     let level = call_level::level_of(book, place, user, holdings, limits, afternoon);
     let due = is_due(
         book,
@@ -116,7 +115,7 @@ fn call_at(
         bearing_buyers,
         place,
         user,
-        position,
+        holdings.positions(),
         limits,
         level,
         afternoon,
@@ -124,30 +123,24 @@ fn call_at(
     raise(book, place, user, level, due)
 }
 
-// The guarantee call on the user of an id, at one time of the day, after the opening questions, whose number is given with the places of
-// the trades' parties and the sums of the users.
+// The guarantee call on the user of an id, at one time of the day, after the opening questions, whose refusal or figures are given with the
+// places of the trades' parties and the sums of the users.
 pub fn call(
     book: &mut [u8],
-    number: u32,
-    limits: Limits,
+    opened: Result<Limits, Refusal>,
     sellers: &[u8; 256],
     buyers: &[u8; 256],
     sums: &mut [u32; 768],
     id: u32,
     afternoon: bool,
-) -> CallAnswer
-    requires { number ≡ 0 → Opened (as_limits limits) book.old sellers.now buyers.now sums.old }
-    ensures { CalledAfter number (as_limits limits) book.old (call_of afternoon id) (answer_of result) book.new }
+) -> Result<GuaranteeCall, Refusal>
+    requires { IfOk opened (λ limits. Opened (as_limits limits) book.old sellers.now buyers.now sums.old) }
+    ensures { CalledAfter (number_in opened) (figures_in opened) book.old (call_of afternoon id) (answer_of result) book.new }
 {
-    let entry = call_entry::seek(book, number, id);
-    let number = entry.number;
-    let place = entry.place;
-    if number != 0 {
-        return CallAnswer::refused(number);
-    }
+    let Entry { limits, place } = call_entry::seek(book, opened, id)?;
     let user = book_format::user_at(book, place);
     if user.role != 0 {
-        return CallAnswer::refused(9);
+        return Err(Refusal::NoShipper);
     }
     let holdings = risk_members::holdings_of(book, sums, place, user);
     let managed = book_format::has_managers(book_format::version(book));
@@ -162,7 +155,7 @@ pub fn call(
             &mut bearing_buyers,
             sums,
         );
-        return call_at(
+        call_at(
             book,
             &bearing_sellers,
             &bearing_buyers,
@@ -171,9 +164,10 @@ pub fn call(
             holdings,
             limits,
             afternoon,
-        );
+        )
+    } else {
+        call_at(
+            book, sellers, buyers, place, user, holdings, limits, afternoon,
+        )
     }
-    call_at(
-        book, sellers, buyers, place, user, holdings, limits, afternoon,
-    )
 }

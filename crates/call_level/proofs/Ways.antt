@@ -6,11 +6,11 @@ use Prim.Native.Nat.{ℕ}
 use borrow.Author.Tests.{eq-eqb, ne_eqb}
 use Rattle.rules.specs.Book.{Book, find}
 use Rattle.rules.specs.Levels.{Limits, shipper}
-use Rattle.rules.specs.Questions.{Question, after, refusal}
+use Rattle.rules.specs.Questions.{Question, after, first_of, refusal}
 use Rattle.rules.specs.Calls.{id_known, is_shipper}
 use Rattle.rules.specs.Queries.{about_query, a_level, found, only_number, reply_after}
 use Rattle.book_format.specs.Book.{book_of}
-use Rattle.call_entry.specs.Entered.{Entered, Found}
+use Rattle.call_entry.specs.Entered.{Found}
 use Rattle.call_entry.proofs.Calls.{query_refused, query_found}
 use Rattle.call_level.specs.Times.{level_of_user, query_of}
 
@@ -33,7 +33,7 @@ module _ (before : ℕ) (limits : Limits) (s : List ℕ) (id : ℕ) (afternoon :
   unfolding rest
   own = query_asks (book_of s) id afternoon
 
-  pub level_refused : {n place : ℕ} → Entered before s id n place → (n ≡ 0 → ⊥) → only_number n ≡ reply_after before limits (book_of s) (query_of afternoon id)
+  pub level_refused : {n : ℕ} → n ≡ first_of before (refusal (id_known (book_of s) id ∷ [])) → (n ≡ 0 → ⊥) → only_number n ≡ reply_after before limits (book_of s) (query_of afternoon id)
   level_refused e h = sym (query_refused before limits s id rest (query_of afternoon id) own e h)
 
   module _ {place : ℕ} (o : before ≡ 0) (f : Found s id place) where

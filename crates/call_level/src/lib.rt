@@ -1,7 +1,7 @@
 // The morning or the afternoon level of a user, on a lent book in bytes. Both times of the day go one way, with the level of the time.
 #![tactic(auto)]
 
-ghost use Rattle.std.specs.Prelude.{◌≡◌, get_or, ◌<◌};
+ghost use Rattle.std.specs.Prelude.{◌≡◌, get_or, ◌<◌, IfOk};
 ghost use Rattle.units.specs.Limits.{as_limits};
 ghost use Rattle.rules.specs.Book.{nobody};
 ghost use Rattle.book_records.specs.User.{alone, as_user};
@@ -9,11 +9,13 @@ ghost use Rattle.book_format.specs.Book.{book_of, count_of_users, users_of};
 ghost use Rattle.rules.specs.Queries.{reply_after};
 ghost use Rattle.call_answers.specs.Level.{reply_of};
 ghost use Rattle.risk_members.specs.Members.{HoldingsOf};
+ghost use Rattle.refusals.specs.Refusal.{number_in};
+ghost use Rattle.store.specs.Asked.{figures_in};
 ghost use Rattle.book_questions.specs.Opened.{OpenedFigures, OpenedSums};
 ghost use Rattle.call_level.specs.Times.{level_of_user, query_of};
 
 use book_records::User;
-use call_answers::LevelAnswer;
+use refusals::Refusal;
 use risk_holdings::Holdings;
 use units::{Cents, Limits};
 
@@ -31,45 +33,30 @@ pub fn level_of(
     ensures { result.0 ≡ level_of_user afternoon (as_limits limits) (book_of book.now) (get_or (users_of book.now) place nobody) }
 {
     let prices = book_header::read_prices(book);
-    let charges = user.charges;
     if afternoon {
-        return risk_levels::afternoon_level(limits, prices, charges, holdings);
+        risk_levels::afternoon_level(limits, prices, user.charges, holdings)
+    } else {
+        risk_levels::morning_level(limits, prices, user.charges, holdings)
     }
-    risk_levels::morning_level(limits, prices, charges, holdings)
 }
 
-// The level of the user of an id, at one time of the day, after the opening questions, whose number is given with the sums of the users.
+// The level of the user of an id, at one time of the day, after the opening questions, with the sums of the users.
 pub fn level(
     book: &[u8],
-    number: u32,
-    limits: Limits,
+    opened: Result<Limits, Refusal>,
     sums: &[u32; 768],
     id: u32,
     afternoon: bool,
-) -> LevelAnswer
-    requires { number ≡ 0 → OpenedSums (as_limits limits) book.now sums.now }
-    ensures { reply_of result ≡ reply_after number (as_limits limits) (book_of book.now) (query_of afternoon id) }
+) -> Result<Cents, Refusal>
+    requires { IfOk opened (λ limits. OpenedSums (as_limits limits) book.now sums.now) }
+    ensures { reply_of result ≡ reply_after (number_in opened) (figures_in opened) (book_of book.now) (query_of afternoon id) }
 {
-    let entry = call_entry::seek(book, number, id);
-    let number = entry.number;
+    let entry = call_entry::seek(book, opened, id)?;
     let place = entry.place;
-    if number != 0 {
-        return LevelAnswer {
-            number: number,
-            level: Cents(0),
-        };
-    }
     let user = book_format::user_at(book, place);
     if user.role != 0 {
-        return LevelAnswer {
-            number: 9,
-            level: Cents(0),
-        };
+        return Err(Refusal::NoShipper);
     }
     let holdings = risk_members::holdings_of(book, sums, place, user);
-    let level = level_of(book, place, user, holdings, limits, afternoon);
-    LevelAnswer {
-        number: 0,
-        level: level,
-    }
+    Ok(level_of(book, place, user, holdings, entry.limits, afternoon))
 }

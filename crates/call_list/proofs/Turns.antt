@@ -29,14 +29,7 @@ place_searched {s = s} id k e = e ∙ ap (λ (xs : List ℕ). place_in xs id) k.
 pub line_refused : {known : List ℕ} {n at size : ℕ} {s : List ℕ} (id area : ℕ) (z : ℤ) {place : ℕ} → Known known n at size s → place ≡ place_in (take n known) id → n ≤ place
     → (limits : Limits) → CalledAfter 0 limits s (posting_of id area z) (only 8) s
 unfolding after
-line_refused {s = s} id area z {place} k e h limits =
-    refused 0 limits s id area z {place = place}
-    (record {
-      asked = entry_unknown s id (omega (arith, k.count, place_searched id k e));
-      start = λ c. refl;
-      found = λ c. absurd (omega arith);
-    })
-    (λ c. omega arith)
+line_refused {s = s} id area z {place} k e h limits = refused 0 limits s id area z (entry_unknown s id (omega (arith, k.count, place_searched id k e))) (λ c. omega arith)
 
 -- ---- line by line
 

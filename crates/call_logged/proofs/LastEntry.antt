@@ -51,10 +51,6 @@ withdrawal_none s l {n} z e {a} f = subst (λ (o : Outcome (List ℕ)). GivesLog
 pub some_left : {n : ℕ} → (n ≡ 0 → ⊥) → 1 ≤ n
 some_left {n} h = by_order n 1 (λ l. absurd (h (omega arith))) (λ l. l)
 
--- the opening questions are passed
-pub by_number : (s l : List ℕ) {n : ℕ} {t m : List ℕ} {a : Answer} → n ≡ 0 → GivesLogged (withdrawal_after as_bytes 0 l s) a t m → GivesLogged (withdrawal_after as_bytes n l s) a t m
-by_number s l {t = t} {m = m} {a = a} z g = subst (λ (k : ℕ). GivesLogged (withdrawal_after as_bytes k l s) a t m) (sym z) g
-
 -- ---- the last entry
 
 -- records at the front of bytes

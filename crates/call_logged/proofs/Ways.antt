@@ -1,5 +1,7 @@
 -- The ways out of the calls with a log: refused by an opening question, or carried out and noted. Assumes nothing.
 use Rattle.base.specs.Basics.{◌≡◌, refl, sym, ap, subst, ◌∙◌, Bool, true, false, cond, Option, none, some, List, ℕ, zero, suc, ◌-◌, ◌≤◌, T}
+use Rattle.std.specs.Prelude.{Ok}
+use Rattle.call_answers.specs.Run.{answer_of}
 use Rattle.fields.specs.Field.{AllBytes}
 use Rattle.book_format.specs.Book.{book_of, count_of_trades}
 use Rattle.call_run.specs.Call.{run_call}
@@ -30,7 +32,12 @@ module _ (limits : Limits) (s l : List ℕ) (c : Call) where
 
 -- ---- a run
 
--- its answer: with 20 where one more reduction is due
+-- its answer: the totals, with 20 where the log became full
+pub run_answer : (t : Totals) (full : Bool) → answer_of (Ok (record { totals = t; log_is_full = full })) ≡ numbered (cond full 20 0) (totals t)
+unfolding numbered answer_of_run
+run_answer t full = refl
+
+-- with 20 where one more reduction is due
 stopped_answer : (due : Bool) (o : Option User) (t : Totals) (a : Answer) (u : User) → a ≡ totals t → (due ≡ false → o ≡ none) → (due ≡ true → o ≡ some u) → numbered (cond due 20 0) (totals t) ≡ stopped o a
 unfolding stopped numbered answer_of_run
 stopped_answer true o t a u e f g = rw (g refl, e)

@@ -26,9 +26,6 @@ module _ (s : List ℕ) (a : Accepted s) (none : managers_in (version_of s) ≡ 
   unfolding book_of
   plain_in {sellers} {buyers} b = record { accepted = b.accepted; placed = subst (λ (x : Book). Placed x.users x.trades sellers buyers) alone b.placed }
 
-  pub plain_copied : {sellers buyers xs ys : List ℕ} → BookIn s sellers buyers → xs ≡ sellers → ys ≡ buyers → BorneIn s xs ys
-  plain_copied b e f = rw (e, f) (plain_in b)
-
   pub plain_sums : {sums : List ℕ} → SumsOf (users_of s) (trades_of s) sums → SumsOf (users_in s) (trades_in s) sums
   unfolding book_of
   plain_sums {sums} w = subst (λ (x : Book). SumsOf x.users x.trades sums) alone w

@@ -1,3 +1,2 @@
 -- Places and sums, with managers and without.
 pub mod Borne
-pub mod Loops

@@ -2,32 +2,13 @@
 // In a version without managers each user bears its own risk.
 #![tactic(auto)]
 
-ghost use Rattle.std.specs.Prelude.{true, ◌≡◌, length, replicate};
+ghost use Rattle.std.specs.Prelude.{true, ◌≡◌, length};
 ghost use Rattle.book_format.specs.Book.{trades_of, users_of, version_of};
 ghost use Rattle.book_parties.specs.Ids.{BookIn};
 ghost use Rattle.book_questions.specs.Opened.{OpenedParties};
 ghost use Rattle.book_sums.specs.Twelve.{SumsOf};
 ghost use Rattle.risk_bearers.specs.Bearers.{BorneIn, trades_in, users_in};
 ghost use Rattle.rules.specs.Areas.{managers_in};
-
-// Copies places.
-fn copy_places(places: &[u8; 256], out: &mut [u8; 256])
-    requires { (length places.now ≡ 256) × (length out.old ≡ 256) }
-    ensures { out.new ≡ places.now }
-{
-    let mut i = 0;
-    while i < 256 {
-        out[i] = places[i];
-        i += 1;
-    }
-}
-
-// Clears the sums.
-fn clear_sums(sums: &mut [u32; 768])
-    ensures { sums.new ≡ replicate 768 0 }
-{
-    *sums = [0u32; 768];
-}
 
 // Lists the places of those who bear the risk of the sellers and of the buyers of a book's trades, given those of the sellers and the
 // buyers, with the sums of what stands at these, in a version with managers: the trades are walked once more.
@@ -49,7 +30,7 @@ pub fn bear_managed(
     let at = book_format::trades_offset(book, n);
     let mut bearers = [0u8; 192];
     risk_bearers::fill_bearers(book, n, &mut bearers);
-    clear_sums(sums);
+    *sums = [0; 768];
     risk_bearers::bear_trades(
         book,
         at,
@@ -80,8 +61,8 @@ pub fn bear(
 {
     if book_format::has_managers(book_format::version(book)) {
         bear_managed(book, sellers, buyers, bearing_sellers, bearing_buyers, sums);
-        return;
+    } else {
+        *bearing_sellers = *sellers;
+        *bearing_buyers = *buyers;
     }
-    copy_places(sellers, bearing_sellers);
-    copy_places(buyers, bearing_buyers);
 }

@@ -3,7 +3,7 @@ use Rattle.base.specs.Basics.{◌≡◌, ◌∙◌, ap, refl, subst⁻¹, sym, B
 use Rattle.base.specs.Basics.{nat_abs, ◌+ℤ◌, get_or, sets, le-leb, le-ltb, lt-ltb}
 use Rattle.base.proofs.Fronts.{all_at}
 use Rattle.call_entry.proofs.Calls.{call_found, call_refused, called}
-use Rattle.call_entry.specs.Entered.{Entered, Found}
+use Rattle.call_entry.specs.Entered.{Found}
 use Rattle.fields.specs.Field.{AllBytes, field, set_field}
 use Rattle.book_format.proofs.OneUser.{changed_bytes, find_place}
 use Rattle.book_format.proofs.Passed.{length-users_of, passed}
@@ -22,7 +22,7 @@ use Rattle.rules.specs.Book.{User, at, find, nobody}
 use Rattle.rules.specs.Calls.{about, call_after, effect, entry_in_range, id_known, only, result_in}
 use Rattle.rules.specs.Changes.{posted}
 use Rattle.rules.specs.Levels.{Limits}
-use Rattle.rules.specs.Questions.{Question, after, positions_are_valid, refusal, user_is_valid}
+use Rattle.rules.specs.Questions.{Question, after, first_of, positions_are_valid, refusal, user_is_valid}
 use Rattle.rules.specs.Signed.{bits_of, signed_of, within}
 
 -- both parts of an integer are in range, and so it is
@@ -45,7 +45,7 @@ module _ (before : ℕ) (limits : Limits) (s : List ℕ) (id area : ℕ) (amount
   own = refl
 
   -- refused by the entry
-  pub refused : {n place : ℕ} → Entered before s id n place → (n ≡ 0 → ⊥) → CalledAfter before limits s (posting_of id area amount) (only n) s
+  pub refused : {n : ℕ} → n ≡ first_of before (refusal (id_known (book_of s) id ∷ [])) → (n ≡ 0 → ⊥) → CalledAfter before limits s (posting_of id area amount) (only n) s
   refused {n} e h = given s n (call_refused before limits s id rest (posting_of id area amount) own e h)
 
   module _ {place : ℕ} (o : before ≡ 0) (f : Found s id place) where
@@ -107,27 +107,27 @@ module _ (s : List ℕ) (place area : ℕ) (z : ℤ) (h : book_number s ≡ 0) (
           held = ap (λ (n : ℕ). within 26600000 (signed_of 32 n)) d ∙ ap (within 26600000) (position_bytes area there k) ∙ parts_within 26600000 (at user.position area) y.0 y.1;
         }
 
-    module _ {entry position newEntry newPosition : ℕ} {ok : Bool} (e : entry ≡ field 4 (place_of_user s place + (8 + 4 * area)) s) (d : position ≡ field 4 (place_of_user s place + (8 + 4 * area) + 12) s)
-        (p : PostedTo entry position z ok newEntry newPosition) where
+    module _ {entry position : ℕ} (e : entry ≡ field 4 (place_of_user s place + (8 + 4 * area)) s) (d : position ≡ field 4 (place_of_user s place + (8 + 4 * area) + 12) s) where
       entry_is : signed_of 32 entry +ℤ z ≡ at user.physical area +ℤ z
       entry_is = ap (λ (n : ℕ). signed_of 32 n +ℤ z) e ∙ ap (λ (x : ℤ). x +ℤ z) (entry_bytes_lem area there k)
 
       position_is : signed_of 32 position +ℤ z ≡ at user.position area +ℤ z
       position_is = ap (λ (n : ℕ). signed_of 32 n +ℤ z) d ∙ ap (λ (x : ℤ). x +ℤ z) (position_bytes area there k)
 
-      tested : (id : ℕ) → place ≡ place_of (users_of s) id → within 1000000 (at (find (users_of s) id).physical area +ℤ z) ≡ ok
-      tested id i = ap (λ (u : User). within 1000000 (at u.physical area +ℤ z)) (user-there id i) ∙ ap (within 1000000) (sym entry_is) ∙ sym p.test
+      tested : {ok : Bool} → within 1000000 (signed_of 32 entry +ℤ z) ≡ ok → (id : ℕ) → place ≡ place_of (users_of s) id → within 1000000 (at (find (users_of s) id).physical area +ℤ z) ≡ ok
+      tested w id i = ap (λ (u : User). within 1000000 (at u.physical area +ℤ z)) (user-there id i) ∙ ap (within 1000000) (sym entry_is) ∙ w
 
-      pub at_out_of_range : ok ≡ false → PostedAt place area z s 10 s
-      at_out_of_range n = record { posts = λ id i limits. out_of_range 0 limits s id area z refl (found_there id i) k (tested id i ∙ n) }
+      pub at_out_of_range : within 1000000 (signed_of 32 entry +ℤ z) ≡ false → PostedAt place area z s 10 s
+      at_out_of_range w = record { posts = λ id i limits. out_of_range 0 limits s id area z refl (found_there id i) k (tested w id i) }
 
-      pub at_accepted : AllBytes s → ok ≡ true → PostedAt place area z s 0 (set_field 4 (place_of_user s place + (8 + 4 * area) + 12) newPosition (set_field 4 (place_of_user s place + (8 + 4 * area)) newEntry s))
-      at_accepted b y =
-          let stored = ap (λ (n : ℕ). set_field 4 (place_of_user s place + (8 + 4 * area) + 12) n (set_field 4 (place_of_user s place + (8 + 4 * area)) newEntry s)) (p.held y ∙ ap (bits_of 32) position_is)
-          ∙ ap (λ (n : ℕ). set_field 4 (place_of_user s place + (8 + 4 * area) + 12) (bits_of 32 (at user.position area +ℤ z)) (set_field 4 (place_of_user s place + (8 + 4 * area)) n s)) (p.entered y ∙ ap (bits_of 32) entry_is)
+      pub at_accepted : {newEntry newPosition : ℕ} → PostedTo entry position z true newEntry newPosition → AllBytes s
+          → PostedAt place area z s 0 (set_field 4 (place_of_user s place + (8 + 4 * area) + 12) newPosition (set_field 4 (place_of_user s place + (8 + 4 * area)) newEntry s))
+      at_accepted {newEntry} p b =
+          let stored = ap (λ (n : ℕ). set_field 4 (place_of_user s place + (8 + 4 * area) + 12) n (set_field 4 (place_of_user s place + (8 + 4 * area)) newEntry s)) (p.held refl ∙ ap (bits_of 32) position_is)
+          ∙ ap (λ (n : ℕ). set_field 4 (place_of_user s place + (8 + 4 * area) + 12) (bits_of 32 (at user.position area +ℤ z)) (set_field 4 (place_of_user s place + (8 + 4 * area)) n s)) (p.entered refl ∙ ap (bits_of 32) entry_is)
           ∙ posted_bytes area there k b (passed s h) z in
           record {
             posts = λ id i limits.
                 subst⁻¹ (CalledAfter 0 limits s (posting_of id area z) (only 0)) (stored ∙ ap (λ (u : User). sets s (place_of_user s place) (user_bytes (posted area z u))) (sym (user-there id i)))
-                (accepted 0 limits s id area z refl (found_there id i) b k (tested id i ∙ y));
+                (accepted 0 limits s id area z refl (found_there id i) b k (tested (sym p.test) id i));
           }

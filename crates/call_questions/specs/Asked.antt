@@ -1,5 +1,5 @@
 -- The questions 9, 11 and 13 of a reduction, the one that refuses a user in each state, and the target where none does. Assumes nothing.
-use Rattle.std.specs.Prelude.{◌≡◌, ◌∷◌}
+use Rattle.std.specs.Prelude.{◌≡◌, ◌∷◌, Ok, Err, Result}
 use Rattle.base.specs.Basics.{List, [], ℕ}
 use Rattle.rules.specs.Book.{Book, User}
 use Rattle.rules.specs.Calls.{assigned_falls_short, called_in_beyond_margin, is_shipper}
@@ -7,6 +7,8 @@ use Rattle.rules.specs.Day.{State, clear, short, call, quiet}
 use Rattle.rules.specs.Levels.{Limits, afternoon_level}
 use Rattle.rules.specs.Questions.{Question, refusal}
 use Rattle.rules.specs.Reduction.{target}
+use Rattle.refusals.specs.declared.Refusal.{Refusal}
+use Rattle.units.specs.declared.Cents.{Cents}
 
 -- the questions 9, 11 and 13
 unfoldable pub level_questions : Limits → Book → User → List Question
@@ -24,3 +26,8 @@ refused_by_state quiet = 11
 pub record ShortfallOf (limits : Limits) (b : Book) (u : User) (number asked : ℕ) : Type 0 where
   pub number_is : number ≡ refusal (level_questions limits b u)
   pub target_is : number ≡ 0 → asked ≡ target limits b u
+
+-- the target that is given; 0 where one of them refuses
+abbrev pub target_in : Result Cents Refusal → ℕ
+target_in (Ok asked) = asked.0
+target_in (Err refusal) = 0

@@ -3,6 +3,7 @@
 #![tactic(auto)]
 
 ghost use Rattle.std.specs.Prelude.{◌≡◌, ◌<◌, get_or, length};
+ghost use Rattle.refusals.specs.Refusal.{number_in};
 ghost use Rattle.book_format.specs.Book.{book_of, count_of_users, users_of};
 ghost use Rattle.units.specs.Limits.{as_limits};
 ghost use Rattle.risk_bearers.specs.Bearers.{users_in};
@@ -11,32 +12,25 @@ ghost use Rattle.risk_user.specs.States.{state_of};
 ghost use Rattle.rules.specs.Book.{nobody};
 ghost use Rattle.run_reduction.specs.Books.{Runnable};
 ghost use Rattle.units.specs.Prices.{as_prices};
-ghost use Rattle.call_questions.specs.Asked.{ShortfallOf, refused_by_state};
+ghost use Rattle.call_questions.specs.Asked.{ShortfallOf, refused_by_state, target_in};
 
+use refusals::Refusal;
 use risk_user::{Day, State};
 use units::Cents;
 
-// What is told of a user: the number of the first of the questions 9, 11 and 13 that is answered by no, 0 where there is none, and then the
-// target.
-#[derive(Clone, Copy)]
-pub struct Shortfall {
-    pub number: u32,
-    pub target: Cents,
-}
-
-// The number of the question 9, 11 or 13 that refuses a user in this state; 0 where none does.
-fn refused_by(state: State) -> u32
-    ensures { result ≡ refused_by_state (state_of state) }
+// Asks the questions 9, 11 and 13 of a user in this state.
+fn refused_by(state: State) -> Result<(), Refusal>
+    ensures { number_in result ≡ refused_by_state (state_of state) }
 {
     match state {
-        State::Clear => 9,
-        State::Short => 0,
-        State::Call => 13,
-        State::Quiet => 11,
+        State::Clear => Err(Refusal::NoShipper),
+        State::Short => Ok(()),
+        State::Call => Err(Refusal::AssignedSuffices),
+        State::Quiet => Err(Refusal::NotDue),
     }
 }
 
-// Asks the questions 9, 11 and 13 of the user at a place, and fills in the positions of all users.
+// Asks the questions 9, 11 and 13 of the user at a place, and fills in the positions of all users. Gives the target.
 pub fn shortfall_at(
     book: &[u8],
     bearing_sellers: &[u8; 256],
@@ -45,9 +39,9 @@ pub fn shortfall_at(
     positions: &mut [u32; 192],
     place: usize,
     day: Day,
-) -> Shortfall
+) -> Result<Cents, Refusal>
     requires { Runnable (as_limits day.limits) (as_prices day.prices) book.now bearing_sellers.now bearing_buyers.now sums.now × (place < count_of_users book.now) × (length positions.old ≡ 192) }
-    ensures shortfall_of { ShortfallOf (as_limits day.limits) (book_of book.now) (get_or (users_of book.now) place nobody) result.number result.target.0 }
+    ensures shortfall_of { ShortfallOf (as_limits day.limits) (book_of book.now) (get_or (users_of book.now) place nobody) (number_in result) (target_in result) }
     ensures positions_of { PositionsOf (users_in book.now) positions.new × (length positions.new ≡ 192) }
 {
     let n = book_format::user_count(book) as usize;
@@ -63,15 +57,6 @@ pub fn shortfall_at(
     );
     let called = risk_user::called_at(book, positions, place, below_notified, day);
     let level = risk_user::level_at(book, sums, positions, place, day);
-    let number = refused_by(risk_user::state_of(book, place, level, called, day));
-    if number != 0 {
-        return Shortfall {
-            number: number,
-            target: Cents(0),
-        };
-    }
-    Shortfall {
-        number: 0,
-        target: risk_user::target_of(book, place, level, day),
-    }
+    refused_by(risk_user::state_of(book, place, level, called, day))?;
+    Ok(risk_user::target_of(book, place, level, day))
 }

@@ -2,40 +2,37 @@
 #![tactic(auto)]
 
 ghost use Rattle.std.specs.Prelude.{◌≡◌, length};
+ghost use Rattle.refusals.specs.Refusal.{number_in};
 ghost use Rattle.book_image.specs.Image.{image_size};
-ghost use Rattle.rights.specs.Party.{party_of};
+ghost use Rattle.book_value.specs.Opened.{book_in};
 ghost use Rattle.rights.specs.Read.{ReadBy};
+ghost use Rattle.call_rights.specs.Acting.{as_party};
 ghost use Rattle.call_read.specs.Image.{ImageReadBy};
 
-use book_value::Opening;
+use book_tables::Book;
+use call_rights::{Matter, Party};
+use refusals::Refusal;
 
-// The book that bytes hold, every field of it, and 0; or a book whose every field is 0 and the number of the first question, 1 to 7 and 26,
-// that is answered by no.
-pub fn read(bytes: &[u8], party: u64) -> Opening
-    ensures { ReadBy (party_of party) bytes.now result.number result.book }
+// Reads the book that bytes hold, every field of it; the first of the questions 1 to 7 and 26 that is answered by no refuses it.
+pub fn read(bytes: &[u8], party: Party) -> Result<Book, Refusal>
+    ensures { ReadBy (as_party party) bytes.now (number_in result) (book_in result) }
 {
-    if party != call_rights::OPERATOR {
-        let asked = book_questions::number(bytes);
-        let entered = call_rights::ask(bytes, asked, party, call_rights::OPERATOR);
-        let blank = book_tables::no_book();
-        return Opening {
-            number: entered,
-            book: blank,
-        };
-    }
-    book_value::open(bytes)
+    let asked = book_questions::check(bytes);
+    call_rights::ask(bytes, asked, party, Matter::Operators)?;
+    Ok(book_tables::read_book(bytes))
 }
 
-// The same as an image: that of the book's fields, and 0; or an image of 0 and the number.
-pub fn read_image(book: &[u8], party: u64, image: &mut [u8]) -> u32
+// The same as an image, that of the book's fields; or an image of 0. The operator's right is not asked for: its questions are asked once.
+pub fn read_image(book: &[u8], party: Party, image: &mut [u8]) -> Result<(), Refusal>
     requires { length image.old ≡ image_size }
-    ensures { ImageReadBy (party_of party) book.now result image.new }
+    ensures { ImageReadBy (as_party party) book.now (number_in result) image.new }
 {
-    if party != call_rights::OPERATOR {
-        let asked = book_questions::number(book);
-        let entered = call_rights::ask(book, asked, party, call_rights::OPERATOR);
-        book_image::fill(image, b"");
-        return entered;
+    match party {
+        Party::Operator => book_image::read(book, image),
+        Party::Shipper(_) => {
+            image.fill(0);
+            let asked = book_questions::check(book);
+            call_rights::ask(book, asked, party, Matter::Operators)
+        }
     }
-    book_image::read(book, image)
 }

@@ -1,5 +1,5 @@
 -- The cuts of the user's own sales, taken off in the bytes, give the rules' book. Assumes nothing.
-use Rattle.base.specs.Basics.{◌≡◌, refl, sym, ap, ap₂, subst, ◌∙◌, Bool, true, false, List, map, ℕ, ◌+◌, ◌-◌, ◌<◌, arith, ltb, length, suc}
+use Rattle.base.specs.Basics.{◌≡◌, refl, sym, ap, ap₂, subst, ◌∙◌, Bool, true, false, List, map, ℕ, ◌+◌, ◌<◌, arith, ltb, length, suc}
 use Rattle.base.specs.Basics.{get_or, sets}
 use Rattle.cut_apply.proofs.Own.{cuttable_part, cuttable_real, own_lowered, real_lowered}
 use Rattle.cut_apply.specs.Cutting.{CuttablePart, lowered_at}

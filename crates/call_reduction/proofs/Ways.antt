@@ -1,14 +1,14 @@
 -- The ways out of a reduction: refused by the entry, by a question of its own, by a log that is full, or done. Assumes nothing.
-use Rattle.base.specs.Basics.{◌≡◌, refl, sym, ap, subst, ◌∙◌, Bool, true, false, List, ◌∷◌, ◌++◌, ℕ, T, get_or}
+use Rattle.base.specs.Basics.{◌≡◌, refl, sym, ap, subst, ◌∙◌, Bool, true, false, List, [], ◌∷◌, ◌++◌, ℕ, T, get_or}
 use Rattle.rules.specs.Book.{User, find, nobody}
 use Rattle.rules.specs.Levels.{Limits}
-use Rattle.rules.specs.Questions.{Question, after, refusal}
+use Rattle.rules.specs.Questions.{Question, after, first_of, refusal}
 use Rattle.rules.specs.Reduction.{has_eligible}
 use Rattle.rules.specs.Calls.{about, effect, eligible_trade, id_known, only, reduced, reduced_by, reduction, result_in, unchanged, Answer, Result}
 use Rattle.book_format.proofs.OneUser.{find_place}
 use Rattle.book_format.specs.Book.{book_of, users_of}
 use Rattle.book_format.specs.Steps.{in_bytes}
-use Rattle.call_entry.specs.Entered.{Entered, Found}
+use Rattle.call_entry.specs.Entered.{Found}
 use Rattle.call_entry.proofs.Asked.{entry_found, entry_refused}
 use Rattle.call_questions.specs.Asked.{ShortfallOf, level_questions}
 use Rattle.call_questions.proofs.Asked.{level_passed, level_refused}
@@ -84,9 +84,9 @@ module _ (last : List Question) (before : ℕ) (limits : Limits) (s : List ℕ) 
   unfolding about level_questions rest
   own = refl
 
-  pub call_unentered : {n place : ℕ} → Entered before s id n place → (n ≡ 0 → ⊥) → step_with last before limits s id ≡ unchanged s n
+  pub call_unentered : {n : ℕ} → n ≡ first_of before (refusal (id_known (book_of s) id ∷ [])) → (n ≡ 0 → ⊥) → step_with last before limits s id ≡ unchanged s n
   unfolding step_with
-  call_unentered {n} e h = rw own (entry_refused s id rest (unchanged s) (result_in in_bytes (effect limits (book_of s) (reduction id))) before n e.asked h)
+  call_unentered {n} e h = rw own (entry_refused s id rest (unchanged s) (result_in in_bytes (effect limits (book_of s) (reduction id))) before n e h)
 
   call_entered_lem : {place : ℕ} → before ≡ 0 → Found s id place → step_with last before limits s id ≡ on_user last limits s user
   unfolding step_with after effect on_user rest

@@ -1,9 +1,12 @@
 // A reduction on a lent book in bytes: its questions, and the cuts of the user's own sales for what its afternoon level exceeds its
 // assigned guarantee by. The sales are cut on arrays, as in a run, and what they lose is taken off in the bytes. A log that is given has
-// the cuts noted; where it has no room for them the last question, 20, is answered by no.
+// the cuts noted; where it has no room for them the last question, 20, is answered by no. A log is lent in either case and `with_log` says
+// whether it is given: no Option, since `ReducedWith` promises of a log that is lent and not given that it stays as it was.
 #![tactic(auto)]
 
-ghost use Rattle.std.specs.Prelude.{true, ◌≡◌, ◌<◌, T, get_or};
+ghost use Rattle.std.specs.Prelude.{true, ◌≡◌, ◌<◌, T, get_or, IfOk};
+ghost use Rattle.refusals.specs.Refusal.{number_in};
+ghost use Rattle.store.specs.Asked.{figures_in};
 ghost use Rattle.book_parties.specs.Ids.{BookIn};
 ghost use Rattle.laws_sales.specs.Borne.{borne_book};
 ghost use Rattle.call_answers.specs.Reduction.{answer_of};
@@ -21,7 +24,9 @@ ghost use Rattle.call_reduction.specs.Call.{Gives, on_sales, on_user, room_asked
 ghost use Rattle.call_reduction.specs.Books.{UserOf, all_sales};
 ghost use Rattle.call_reduction.specs.Log.{ReducedWith, noted_by};
 
-use call_answers::ReductionAnswer;
+use call_answers::Reduction;
+use call_entry::Entry;
+use refusals::Refusal;
 use risk_user::Day;
 use units::{Cents, Limits, Prices};
 
@@ -43,7 +48,7 @@ fn reduce_listed(
     prices: Prices,
     with_log: bool,
     log: &mut [u8],
-) -> ReductionAnswer
+) -> Result<Reduction, Refusal>
     requires user_of { UserOf (as_prices prices) book.old place sellers.now buyers.now positions.old }
     requires listed { Listed (borne_book (book_of book.old)) starts.now origins.now standing.old areas.now sale_buyers.now (all_sales (borne_book (book_of book.old))) }
     requires t { with_log ≡ true → T (log_fits log.old book.old) }
@@ -53,10 +58,10 @@ fn reduce_listed(
     let from = starts[place];
     let to = starts[place + 1];
     if !run_targets::any_left(standing, from, to) {
-        return ReductionAnswer::refused(14);
+        return Err(Refusal::NothingToCut);
     }
     if !log_lent::has_room(with_log, log) {
-        return ReductionAnswer::refused(20);
+        return Err(Refusal::FullLog);
     }
     let mut cuts = [0u64; 256];
     let mut rests = [0u64; 256];
@@ -76,7 +81,7 @@ fn reduce_listed(
     let n = book_format::user_count(book) as usize;
     cut_apply::apply(book, n, sellers, buyers, origins, &cuts, from, to);
     log_lent::note(book, with_log, log, origins, &cuts, from, to);
-    ReductionAnswer::of_cuts(asked, tally)
+    Ok(Reduction::of_cuts(asked, tally))
 }
 
 // Asks question 14 of the user at a place and 20 of a log that is given, and reduces the user for an amount.
@@ -92,7 +97,7 @@ fn reduce_sales(
     prices: Prices,
     with_log: bool,
     log: &mut [u8],
-) -> ReductionAnswer
+) -> Result<Reduction, Refusal>
     requires user_of { UserOf (as_prices prices) book.old place sellers.now buyers.now positions.old × BorneIn book.old bearing_sellers.now bearing_buyers.now }
     requires t { with_log ≡ true → T (log_fits log.old book.old) }
     ensures gives { Gives (on_sales (room_asked with_log log.old) book.old (get_or (users_of book.old) place nobody) asked.0) (answer_of result) book.new }
@@ -149,7 +154,7 @@ fn reduce_user(
     day: Day,
     with_log: bool,
     log: &mut [u8],
-) -> ReductionAnswer
+) -> Result<Reduction, Refusal>
     requires book_in { BookIn book.old sellers.now buyers.now }
     requires runnable { Runnable (as_limits day.limits) (as_prices day.prices) book.old bearing_sellers.now bearing_buyers.now sums.now × (place < count_of_users book.old) }
     requires t { with_log ≡ true → T (log_fits log.old book.old) }
@@ -157,7 +162,7 @@ fn reduce_user(
     ensures log_after { log.new ≡ noted_by with_log (answer_of result).number (entry_of (as_limits day.limits) (book_of book.old) (get_or (users_of book.old) place nobody)) book.old book.new log.old }
 {
     let mut positions = [0u32; 192];
-    let shortfall = call_questions::shortfall_at(
+    let target = call_questions::shortfall_at(
         book,
         bearing_sellers,
         bearing_buyers,
@@ -165,12 +170,7 @@ fn reduce_user(
         &mut positions,
         place,
         day,
-    );
-    let number = shortfall.number;
-    if number != 0 {
-        return ReductionAnswer::refused(number);
-    }
-    let target = shortfall.target;
+    )?;
     reduce_sales(
         book,
         sellers,
@@ -186,31 +186,25 @@ fn reduce_user(
     )
 }
 
-// The reduction of the user of an id, after the opening questions, whose number is given with the places of the trades' parties and the
-// sums of the users: the user's eligible trades are cut for its target.
+// The reduction of the user of an id, after the opening questions, whose refusal or figures are given with the places of the trades'
+// parties and the sums of the users: the user's eligible trades are cut for its target.
 pub fn reduction(
     book: &mut [u8],
-    number: u32,
-    limits: Limits,
+    opened: Result<Limits, Refusal>,
     sellers: &[u8; 256],
     buyers: &[u8; 256],
     sums: &mut [u32; 768],
     id: u32,
     with_log: bool,
     log: &mut [u8],
-) -> ReductionAnswer
-    requires opened { number ≡ 0 → Opened (as_limits limits) book.old sellers.now buyers.now sums.old }
-    requires t { number ≡ 0 → with_log ≡ true → T (log_fits log.old book.old) }
-    ensures { ReducedWith with_log number (as_limits limits) log.old book.old id (answer_of result) book.new log.new }
+) -> Result<Reduction, Refusal>
+    requires opened { IfOk opened (λ limits. Opened (as_limits limits) book.old sellers.now buyers.now sums.old) }
+    requires t { IfOk opened (λ limits. with_log ≡ true → T (log_fits log.old book.old)) }
+    ensures { ReducedWith with_log (number_in opened) (figures_in opened) log.old book.old id (answer_of result) book.new log.new }
 {
-    let entry = call_entry::seek(book, number, id);
-    let number = entry.number;
-    let place = entry.place;
-    if number != 0 {
-        return ReductionAnswer::refused(number);
-    }
+    let Entry { limits, place } = call_entry::seek(book, opened, id)?;
     let day = Day {
-        limits: limits,
+        limits,
         prices: book_header::read_prices(book),
     };
     let mut bearing_sellers = [0u8; 256];

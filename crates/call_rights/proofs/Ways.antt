@@ -1,6 +1,5 @@
--- Whether the user of an id is a shipper of the book, and the number of question 26 by what the code compares. Assumes nothing.
+-- Whether the user of an id is a shipper of the book, and the number of question 26 by what the party may do. Assumes nothing.
 use Rattle.base.specs.Basics.{◌≡◌, ◌∙◌, ap, refl, sym, Bool, true, false, cond, List, ℕ, ◌≤◌, eqb, get_or, eq-eqb, ne_eqb}
-use Rattle.base.proofs.Tests.{by_case}
 use Rattle.book_format.proofs.OneUser.{find_place, known_place, unknown_place}
 use Rattle.book_format.specs.Book.{book_of, count_of_users, users_of}
 use Rattle.book_format.specs.Questions.{book_number}
@@ -10,9 +9,9 @@ use Rattle.book_records.specs.User.{alone, as_user}
 use Rattle.book_records.specs.declared.User as code
 use Rattle.rules.specs.Book.{User, find, nobody}
 use Rattle.rules.specs.Levels.{shipper}
-use Rattle.rules.specs.Questions.{after, first_of, known}
+use Rattle.rules.specs.Questions.{after, first_of}
 use Rattle.rights.specs.Acting.{entering_number}
-use Rattle.rights.specs.Party.{party_of, is_shipper_in, matter_by, may_do, right_number}
+use Rattle.rights.specs.Party.{Matter, Party, is_shipper_in, may_do, own, party_of, operator, operators, right_number, shipper_of}
 use Rattle.laws.proofs.Refusals.{after_nonzero}
 
 -- ---- a shipper of the book
@@ -29,51 +28,60 @@ at_a_place s id u f h =
     ∙ ap (λ (v : User). v.party.role) (ap (λ (i : ℕ). get_or (users_of s) i nobody) f.stands ∙ sym (find_place (users_of s) id)) in
     rw (known_place s id (rw f.stands at f.known), e)
 
+-- ---- the party of a number
+
+pub operator_number : (number : ℕ) → number ≡ 4294967296 → operator ≡ party_of number
+unfolding party_of
+operator_number number e = rw (eq-eqb number 4294967296 e)
+
+pub shipper_number : (number : ℕ) → (number ≡ 4294967296 → ⊥) → shipper_of number ≡ party_of number
+unfolding party_of
+shipper_number number n = rw (ne_eqb number 4294967296 n)
+
 -- ---- the number of 26
 
-module _ (s : List ℕ) (party matter : ℕ) where
-  right : Bool
-  right = may_do (book_of s) (party_of party) (matter_by matter)
-
+module _ (s : List ℕ) (actor : Party) (m : Matter) where
   -- a question of the book refuses
-  pub asked_refused : {asked : ℕ} → asked ≡ book_number s → (asked ≡ 0 → ⊥) → asked ≡ entering_number (party_of party) (matter_by matter) s
+  pub asked_refused : {asked : ℕ} → asked ≡ book_number s → (asked ≡ 0 → ⊥) → asked ≡ entering_number actor m s
   unfolding entering_number
   asked_refused e h =
-      let own = right_number (book_of s) (party_of party) (matter_by matter) in
-      sym (after_nonzero (λ k. k) own h) ∙ ap (λ (n : ℕ). first_of n own) e
+      let right = right_number (book_of s) actor m in
+      sym (after_nonzero (λ k. k) right h) ∙ ap (λ (n : ℕ). first_of n right) e
 
   -- none does
-  asked_right : {may : Bool} → book_number s ≡ 0 → may ≡ right → cond may 0 26 ≡ entering_number (party_of party) (matter_by matter) s
-  unfolding right after right_number entering_number
+  asked_right : {may : Bool} → 0 ≡ book_number s → may_do (book_of s) actor m ≡ may → cond may 0 26 ≡ entering_number actor m s
+  unfolding after right_number entering_number
   asked_right z e =
-      ap (λ (c : Bool). cond c 0 26) e
-      ∙ ap (λ (n : ℕ). first_of n (cond (may_do (book_of s) (party_of party) (matter_by matter)) 0 26)) (sym z)
+      ap (λ (c : Bool). cond c 0 26) (sym e)
+      ∙ ap (λ (n : ℕ). first_of n (cond (may_do (book_of s) actor m) 0 26)) z
 
-  -- the operator
-  pub for_operator : book_number s ≡ 0 → party ≡ 4294967296 → 0 ≡ entering_number (party_of party) (matter_by matter) s
-  unfolding right party_of may_do
-  for_operator z e = let may : true ≡ right = rw (eq-eqb party 4294967296 e) in asked_right z may
+  -- and the party may do it
+  pub allowed : 0 ≡ book_number s → may_do (book_of s) actor m ≡ true → 0 ≡ entering_number actor m s
+  allowed z e = asked_right z e
 
-  -- a shipper that asks for what is not its own
-  pub for_another : book_number s ≡ 0 → (party ≡ 4294967296 → ⊥) → (party ≡ matter → ⊥) → 26 ≡ entering_number (party_of party) (matter_by matter) s
-  unfolding right party_of matter_by may_do
-  for_another z n h =
-      let may : false ≡ right
-      = by_case (eqb matter 4294967296) (λ e. rw (ne_eqb party 4294967296 n, e)) (λ e. rw (ne_eqb party 4294967296 n, e, ne_eqb party matter h)) in
-      asked_right z may
+  -- or may not
+  pub forbidden : 0 ≡ book_number s → may_do (book_of s) actor m ≡ false → 26 ≡ entering_number actor m s
+  forbidden z e = asked_right z e
 
-  -- and for its own
-  for_own : {ships : Bool} → book_number s ≡ 0 → (party ≡ 4294967296 → ⊥) → party ≡ matter → ships ≡ is_shipper_in (book_of s) party
-      → cond ships 0 26 ≡ entering_number (party_of party) (matter_by matter) s
-  unfolding right party_of matter_by may_do
-  for_own {ships} z n h k =
-      let may : ships ≡ right = rw (← h, ne_eqb party 4294967296 n, eq-eqb party party refl) k in
-      asked_right z may
+-- what the operator may do, and a shipper of what is the operator's
+pub operators_right : (s : List ℕ) (m : Matter) → may_do (book_of s) operator m ≡ true
+unfolding may_do
+operators_right s m = refl
 
-  pub for_shipper : {ships : Bool} → book_number s ≡ 0 → (party ≡ 4294967296 → ⊥) → party ≡ matter → ships ≡ is_shipper_in (book_of s) party → ships ≡ true
-      → 0 ≡ entering_number (party_of party) (matter_by matter) s
-  for_shipper z n h k e = for_own z n h (sym e ∙ k)
+pub operators_alone : (s : List ℕ) (party : ℕ) → may_do (book_of s) (shipper_of party) operators ≡ false
+unfolding may_do
+operators_alone s party = refl
 
-  pub for_no_shipper : {ships : Bool} → book_number s ≡ 0 → (party ≡ 4294967296 → ⊥) → party ≡ matter → ships ≡ is_shipper_in (book_of s) party → ships ≡ false
-      → 26 ≡ entering_number (party_of party) (matter_by matter) s
-  for_no_shipper z n h k e = for_own z n h (sym e ∙ k)
+-- a shipper and an id's own matter
+module _ (s : List ℕ) (party id : ℕ) where
+  pub own_shipper : party ≡ id → true ≡ is_shipper_in (book_of s) id → may_do (book_of s) (shipper_of party) (own id) ≡ true
+  unfolding may_do
+  own_shipper e h = rw (e, ← h, eq-eqb id id refl)
+
+  pub own_no_shipper : party ≡ id → false ≡ is_shipper_in (book_of s) id → may_do (book_of s) (shipper_of party) (own id) ≡ false
+  unfolding may_do
+  own_no_shipper e h = rw (e, ← h, eq-eqb id id refl)
+
+  pub anothers : (party ≡ id → ⊥) → may_do (book_of s) (shipper_of party) (own id) ≡ false
+  unfolding may_do
+  anothers n = rw (ne_eqb party id n)

@@ -1,14 +1,45 @@
 // Question 26, after those of the book: may the acting party have what it asks for?
 #![tactic(auto)]
 
-ghost use Rattle.std.specs.Prelude.{◌≡◌, ◌≤◌};
+ghost use Rattle.std.specs.Prelude.{◌≡◌, IsOk};
 ghost use Rattle.book_format.specs.Book.{book_of};
 ghost use Rattle.book_format.specs.Questions.{book_number};
-ghost use Rattle.rights.specs.Party.{party_of, is_shipper_in, matter_by};
+ghost use Rattle.refusals.specs.Refusal.{number_in};
+ghost use Rattle.rights.specs.Party.{party_of, is_shipper_in};
 ghost use Rattle.rights.specs.Acting.{entering_number};
+ghost use Rattle.call_rights.specs.Acting.{as_party, as_matter};
 
-// The operator as an acting party, and whose a matter of the operator's is: a number that no id reaches.
-pub const OPERATOR: u64 = 4294967296;
+use refusals::Refusal;
+
+// The number of the operator where a party is a number: one that no id reaches.
+const OPERATOR: u64 = 4294967296;
+
+// Who makes a call: the operator, or a shipper by its id. The id may be any number: one that is no shipper's in the book may do nothing.
+#[derive(Clone, Copy, Debug, PartialEq, Eq)]
+pub enum Party {
+    Operator,
+    Shipper(u64),
+}
+
+// A party by its number, as C passes it.
+impl From<u64> for Party {
+    ghost from_gives = { λ number party. as_party party ≡ party_of number };
+
+    fn from(number: u64) -> Party {
+        if number == OPERATOR {
+            Party::Operator
+        } else {
+            Party::Shipper(number)
+        }
+    }
+}
+
+// Whose a matter is: the operator's, or an id's own.
+#[derive(Clone, Copy, Debug, PartialEq, Eq)]
+pub enum Matter {
+    Operators,
+    Own(u32),
+}
 
 // Is the id that of a shipper in the book?
 fn is_shipper(book: &[u8], id: u32) -> bool
@@ -24,25 +55,23 @@ fn is_shipper(book: &[u8], id: u32) -> bool
     user.role == 0
 }
 
-// The number of the book's questions where one is answered by no, else that of 26: 0 where the party, an id or the operator, may have what
-// is the operator's, or an id's own.
-pub fn ask(book: &[u8], asked: u32, party: u64, matter: u64) -> u32
-    requires asked_value { asked ≡ book_number book.now }
-    requires matter_bound { matter ≤ 4294967296 }
-    ensures value { result ≡ entering_number (party_of party) (matter_by matter) book.now }
-    ensures asked_value_2 { result ≡ 0 → asked ≡ 0 }
+// Question 26, after those of the book: may the party have what is the operator's, or an id's own?
+pub fn ask(
+    book: &[u8],
+    asked: Result<(), Refusal>,
+    party: Party,
+    matter: Matter,
+) -> Result<(), Refusal>
+    requires { number_in asked ≡ book_number book.now }
+    ensures value { number_in result ≡ entering_number (as_party party) (as_matter matter) book.now }
+    ensures asked_ok { IsOk result → IsOk asked }
 {
-    if asked != 0 {
-        return asked;
+    asked?;
+    match (party, matter) {
+        (Party::Operator, _) => Ok(()),
+        (Party::Shipper(id), Matter::Own(own)) if id == own as u64 && is_shipper(book, own) => {
+            Ok(())
+        }
+        _ => Err(Refusal::NotPermitted),
     }
-    if party == OPERATOR {
-        return 0;
-    }
-    if party != matter {
-        return 26;
-    }
-    if is_shipper(book, party as u32) {
-        return 0;
-    }
-    26
 }

@@ -1,5 +1,7 @@
 -- What showing a user's record gives: the number and the part of the book. Assumes nothing.
-use Rattle.std.specs.Prelude.{◌≡◌, Bool, cond, List, [], ℕ, ◌+◌, drop, take}
+use Rattle.std.specs.Prelude.{◌≡◌, Bool, cond, List, [], ℕ, ◌+◌, drop, take, Result, Ok, Err}
+use Rattle.std.specs.Borrow.{Bor}
+use Rattle.refusals.specs.declared.Refusal.{Refusal}
 use Rattle.rules.specs.Questions.{after, first_of, refusal}
 use Rattle.rules.specs.Queries.{shown_record, about_query}
 use Rattle.book_format.specs.Book.{book_of, place_of_user, size_of_user, version_of}
@@ -20,6 +22,16 @@ pub record ShownAfter (opened : ℕ) (s : List ℕ) (id number : ℕ) (part : Li
 pub record PartAfter (opened : ℕ) (s : List ℕ) (id : ℕ) (book part : ℕ × ℕ) : Type 0 where
   pub block : part.0 ≡ book.0
   pub offset : part.1 ≡ book.1 + showing opened s id (λ n. 0) (place_of_user s (place_of (book_of s).users id))
+
+-- ---- the result: a part of the book or a refusal, which hands out no bytes and no place other than the book's beginning
+
+abbrev pub bytes_of : Result (Bor (List ℕ)) Refusal → List ℕ
+bytes_of (Ok part) = part.now
+bytes_of (Err refusal) = []
+
+abbrev pub place_in : ℕ × ℕ → Result (Bor (List ℕ)) Refusal → ℕ × ℕ
+place_in book (Ok part) = part.ref_ptr
+place_in book (Err refusal) = book
 
 -- ---- one of two books
 

@@ -9,7 +9,7 @@ use Rattle.laws.proofs.Users.{known-id}
 use Rattle.book_format.proofs.Held.{accepted_trades}
 use Rattle.book_format.proofs.OneUser.{find_place, place_known}
 use Rattle.book_format.proofs.Passed.{length-trades_of, length-users_of}
-use Rattle.book_format.specs.Book.{count_of_trades, trades_at, trades_of, users_of}
+use Rattle.book_format.specs.Book.{book_of, count_of_trades, trades_at, trades_of, users_of}
 use Rattle.book_format.specs.Questions.{parts_of}
 use Rattle.book_records.specs.Trade.{trade_of}
 use Rattle.book_format.specs.Held.{Accepted}
@@ -20,10 +20,10 @@ use Rattle.book_parties.specs.Ids.{BookIn, PlacedOn, ids_of, place_in}
 use Rattle.rules.specs.Book.{Terms, Trade, User, find, no_trade, nobody}
 use Rattle.rules.specs.Levels.{Limits}
 use Rattle.base.proofs.Tests.{and_l, and_r}
-use Rattle.rules.specs.Questions.{after, amounts_valid, codes_valid, known, parties_valid, trade_is_valid}
+use Rattle.rules.specs.Questions.{after, amounts_valid, codes_valid, first_of, known, parties_valid, refusal, trade_is_valid}
 use Rattle.rights.proofs.Parts.{records_parts}
 use Rattle.rights.specs.Seen.{trades_shown}
-use Rattle.rights.specs.Trades.{Told, id_of, tells, told_after, told_number, trade_shown_at, trade_start}
+use Rattle.rights.specs.Trades.{Told, about_user, id_of, tells, told_after, told_number, trade_shown_at, trade_start}
 use Rattle.rights.specs.Trades as asking
 use Rattle.views.proofs.Kept.{get_d_kept, place_map}
 use Rattle.rules.specs.Bearers.{as_borne, bearer}
@@ -32,7 +32,7 @@ use Rattle.views.specs.Kept.{place_kept}
 use Rattle.views.specs.Views.{sees_trade}
 use Rattle.call_told.proofs.Asked.{told_found, told_refused}
 use Rattle.call_told.specs.Seen.{sees_at, stands_for}
-use Rattle.call_told.specs.Told.{ShipperFound, TradeAfter}
+use Rattle.call_told.specs.Told.{TradeAfter}
 
 -- ---- the parties of a trade by their places
 
@@ -159,40 +159,48 @@ pub record Looked (s : List ℕ) (party ordinal i left : ℕ) : Type 0 where
   pub most : i ≤ count_of_trades s
   pub place : i + place_kept (sees_trade (users_of s) party) (drop i (trades_of s)) left ≡ place_kept (sees_trade (users_of s) party) (trades_of s) ordinal
 
-module _ {s sellers buyers : List ℕ} (b : BookIn s sellers buyers) (party : ℕ) {i one seller buyer : ℕ} (l : i < count_of_trades s) (e : seller ≡ get_or sellers i 0) (f : buyer ≡ get_or buyers i 0)
-    (told : one ≡ cond (sees_at (users_of s) party seller buyer (get_or (trades_of s) i no_trade)) 1 0) where
-  one_is : one ≡ cond (sees_trade (users_of s) party (get_or (trades_of s) i no_trade)) 1 0
-  one_is = told ∙ ap (λ (c : Bool). cond c 1 0) (sees_is s sellers buyers b party i l e f)
+module _ {s sellers buyers : List ℕ} (b : BookIn s sellers buyers) (party : ℕ) {i seller buyer : ℕ} (l : i < count_of_trades s) (e : seller ≡ get_or sellers i 0) (f : buyer ≡ get_or buyers i 0)
+    {seen : Bool} (told : seen ≡ sees_at (users_of s) party seller buyer (get_or (trades_of s) i no_trade)) where
+  -- what the next trade counts
+  one_is : (one : ℕ) {c : Bool} → seen ≡ c → one ≡ cond c 1 0 → one ≡ cond (sees_trade (users_of s) party (get_or (trades_of s) i no_trade)) 1 0
+  one_is one h k = k ∙ ap (λ (x : Bool). cond x 1 0) (sym h ∙ told ∙ sees_is s sellers buyers b party i l e f)
 
-  pub at_most_one : one ≤ 1
-  at_most_one = subst (λ (n : ℕ). n ≤ 1) (sym told) (go (sees_at (users_of s) party seller buyer (get_or (trades_of s) i no_trade)))
-    where
-      go : (c : Bool) → cond c 1 0 ≤ 1
-      go true = omega arith
-      go false = omega arith
-
-  pub counted_next : {count : ℕ} → Counted s party i count → Counted s party (i + 1) (count + one)
-  counted_next {count} c =
+  counted : (one : ℕ) → one ≤ 1 → one ≡ cond (sees_trade (users_of s) party (get_or (trades_of s) i no_trade)) 1 0 → {count : ℕ} → Counted s party i count → Counted s party (i + 1) (count + one)
+  counted one most is {count} c =
       let p = sees_trade (users_of s) party in
       let n = next_counted p no_trade (trades_of s) i (omega (arith, length-trades_of s)) in
       record {
-        few = omega (arith, c.few, at_most_one);
-        whole = subst (λ (j : ℕ). count + one + length (kept p (drop j (trades_of s))) ≡ length (kept p (trades_of s))) (sym (add-one i)) (omega (arith, n, one_is, c.whole));
+        few = omega (arith, c.few);
+        whole = subst (λ (j : ℕ). count + one + length (kept p (drop j (trades_of s))) ≡ length (kept p (trades_of s))) (sym (add-one i)) (omega (arith, n, is, c.whole));
       }
 
+  pub counted_next : {count : ℕ} → Counted s party i count → seen ≡ true → Counted s party (i + 1) (count + 1)
+  counted_next c h = counted 1 (omega arith) (one_is 1 h refl) c
+
+  pub uncounted_next : {count : ℕ} → Counted s party i count → seen ≡ false → Counted s party (i + 1) count
+  uncounted_next c h = let r = counted 0 (omega arith) (one_is 0 h refl) c in record { few = omega (arith, r.few); whole = omega (arith, r.whole) }
+
   module _ {ordinal left : ℕ} (k : Looked s party ordinal i left) where
-    pub looked_found : left < one → i ≡ place_kept (sees_trade (users_of s) party) (trades_of s) ordinal
-    looked_found h =
-        let n = next_found (sees_trade (users_of s) party) no_trade (trades_of s) i left (omega (arith, length-trades_of s)) (subst (λ (m : ℕ). left < m) one_is h) in
+    pub looked_found : seen ≡ true → left ≡ 0 → i ≡ place_kept (sees_trade (users_of s) party) (trades_of s) ordinal
+    looked_found h z =
+        let n = next_found (sees_trade (users_of s) party) no_trade (trades_of s) i left (omega (arith, length-trades_of s)) (subst (λ (m : ℕ). left < m) (one_is 1 h refl) (omega (arith, z))) in
         omega (arith, n, k.place)
 
-    pub looked_next : one ≤ left → Looked s party ordinal (i + 1) (left - one)
-    looked_next h =
+    passed : (one : ℕ) → one ≡ cond (sees_trade (users_of s) party (get_or (trades_of s) i no_trade)) 1 0 → one ≤ left → Looked s party ordinal (i + 1) (left - one)
+    passed one is h =
         let p = sees_trade (users_of s) party in
-        let n = next_passed p no_trade (trades_of s) i left (omega (arith, length-trades_of s)) (subst (λ (m : ℕ). m ≤ left) one_is h) in
+        let n = next_passed p no_trade (trades_of s) i left (omega (arith, length-trades_of s)) (subst (λ (m : ℕ). m ≤ left) is h) in
         let m : place_kept p (drop i (trades_of s)) left ≡ suc (place_kept p (drop (suc i) (trades_of s)) (left - one))
-        = n ∙ ap (λ (j : ℕ). suc (place_kept p (drop (suc i) (trades_of s)) (left - j))) (sym one_is) in
+        = n ∙ ap (λ (j : ℕ). suc (place_kept p (drop (suc i) (trades_of s)) (left - j))) (sym is) in
         record { most = omega (arith, l); place = subst (λ (j : ℕ). j + place_kept p (drop j (trades_of s)) (left - one) ≡ place_kept p (trades_of s) ordinal) (sym (add-one i)) (omega (arith, m, k.place)) }
+
+    pub looked_next : seen ≡ true → (left ≡ 0 → ⊥) → Looked s party ordinal (i + 1) (left - 1)
+    looked_next h z = passed 1 (one_is 1 h refl) (omega (arith, z))
+
+    pub looked_past : seen ≡ false → Looked s party ordinal (i + 1) left
+    looked_past h =
+        let e : left - 0 ≡ left = omega arith in
+        subst (λ (n : ℕ). Looked s party ordinal (i + 1) n) e (passed 0 (one_is 0 h refl) (omega arith))
 
 -- ---- the bytes of the trade looked for
 
@@ -229,16 +237,16 @@ module _ (s : List ℕ) (party ordinal place : ℕ) (e : place ≡ place_kept (s
 
 -- ---- the part that is handed back
 
-module _ (opened : ℕ) (s : List ℕ) (party ordinal : ℕ) {number place : ℕ} (f : ShipperFound opened s party number place) where
+module _ (opened : ℕ) (s : List ℕ) (party ordinal : ℕ) {number : ℕ} (asked : number ≡ first_of opened (refusal (about_user (book_of s) party))) where
   -- refused
-  pub part_refused : {book at : ℕ × ℕ} → (number ≡ 0 → ⊥) → at.0 ≡ book.0 → at.1 ≡ book.1 → TradeAfter opened s party ordinal number [] book at
+  pub part_refused : {book : ℕ × ℕ} → (number ≡ 0 → ⊥) → TradeAfter opened s party ordinal number [] book book
   unfolding told_number id_of trade_shown_at after
-  part_refused h block o =
+  part_refused h =
       record {
-        asked = λ limits. ap (λ (r : Told). r.number) (told_refused opened s (asking.trade_of party ordinal) f limits h);
-        shows = λ limits. ap (λ (r : Told). r.part) (told_refused opened s (asking.trade_of party ordinal) f limits h);
-        block = block;
-        offset = let z = go number h in omega (arith, o, z);
+        asked = λ limits. ap (λ (r : Told). r.number) (told_refused opened s (asking.trade_of party ordinal) asked limits h);
+        shows = λ limits. ap (λ (r : Told). r.part) (told_refused opened s (asking.trade_of party ordinal) asked limits h);
+        block = refl;
+        offset = let z = go number h in omega (arith, z);
       }
     where
       go : (n : ℕ) → (n ≡ 0 → ⊥) → 0 ≡ after n (λ m. 0) (trade_start s (place_kept (sees_trade (users_of s) party) (trades_of s) ordinal))
@@ -249,11 +257,11 @@ module _ (opened : ℕ) (s : List ℕ) (party ordinal : ℕ) {number place : ℕ
   module _ (z : number ≡ 0) (limits : Limits) where
     pub found_number : number ≡ (told_after opened limits s (asking.trade_of party ordinal)).number
     unfolding tells id_of
-    found_number = z ∙ ap (λ (r : Told). r.number) (told_found opened s (asking.trade_of party ordinal) f limits z)
+    found_number = z ∙ ap (λ (r : Told). r.number) (told_found opened s (asking.trade_of party ordinal) asked limits z)
 
     pub found_part : get_or (trades_shown party s) ordinal [] ≡ (told_after opened limits s (asking.trade_of party ordinal)).part
     unfolding tells id_of
-    found_part = ap (λ (r : Told). r.part) (told_found opened s (asking.trade_of party ordinal) f limits z)
+    found_part = ap (λ (r : Told). r.part) (told_found opened s (asking.trade_of party ordinal) asked limits z)
 
   pub found_start : number ≡ 0 → trade_start s (place_kept (sees_trade (users_of s) party) (trades_of s) ordinal) ≡ trade_shown_at number s party ordinal
   unfolding trade_shown_at after

@@ -67,11 +67,8 @@ module _ {s : List ℕ} {place : ℕ} (p : UserIn s place) where
           go true k = ne_eqb manager party (λ z. omega (arith, z, h, m, eqb-true (manager_in (get_or (users_of s) place nobody).party.managers area) 0 k)) ∙ sym (ne_eqb own party (λ z. other (id_is e ∙ z)))
           go false k = ap (λ (n : ℕ). eqb n party) m
 
-pub first_stands : (x y : Bool) → x ≡ true → ◌≡◌ {A = ℕ} 1 (cond (x || y) 1 0)
+pub first_stands : (x y : Bool) → x ≡ true → true ≡ (x || y)
 first_stands x y e = rw e
 
-pub second_stands : (x y : Bool) → x ≡ false → y ≡ true → ◌≡◌ {A = ℕ} 1 (cond (x || y) 1 0)
-second_stands x y e f = rw (e, f)
-
-pub none_stands : (x y : Bool) → x ≡ false → y ≡ false → ◌≡◌ {A = ℕ} 0 (cond (x || y) 1 0)
-none_stands x y e f = rw (e, f)
+pub second_stands : (x y : Bool) → x ≡ false → y ≡ (x || y)
+second_stands x y e = rw e

@@ -26,14 +26,14 @@ module _ (limits : Limits) (b : Book) (u : User) {id : ℕ} (own : id ≡ u.part
 
 -- ---- all
 
-module _ (limits : Limits) (s : List ℕ) {rows : List UserLevels} where
+module _ (limits : Limits) (s : List ℕ) where
   -- where a question refuses
-  pub levels_refused : (n : ℕ) → (n ≡ 0 → ⊥) → rows ≡ (no_levels 0).users → ◌≡◌ {A = AllLevels} (record { number = n; users = rows }) (levels_after n limits s)
-  unfolding levels_after after no_levels
-  levels_refused zero h e = absurd (h refl)
-  levels_refused (suc n) h e = rw e
+  pub levels_refused : (n : ℕ) → (n ≡ 0 → ⊥) → no_levels n ≡ levels_after n limits s
+  unfolding levels_after after
+  levels_refused zero h = absurd (h refl)
+  levels_refused (suc n) h = refl
 
   -- where none does
-  pub levels_found : {n : ℕ} → n ≡ 0 → rows ≡ user_rows limits (book_of s) → ◌≡◌ {A = AllLevels} (record { number = 0; users = rows }) (levels_after n limits s)
+  pub levels_found : {rows : List UserLevels} → rows ≡ user_rows limits (book_of s) → ◌≡◌ {A = AllLevels} (record { number = 0; users = rows }) (levels_after 0 limits s)
   unfolding levels_after after levels_in
-  levels_found z e = rw (z, e)
+  levels_found e = rw e

@@ -2,7 +2,8 @@
 // id tell. It changes no book.
 #![tactic(auto)]
 
-ghost use Rattle.std.specs.Prelude.{false, map, ◌≡◌, ◌<◌, get_or, replicate};
+ghost use Rattle.std.specs.Prelude.{false, map, ◌≡◌, ◌<◌, get_or, replicate, IfOk};
+ghost use Rattle.refusals.specs.Refusal.{number_in};
 ghost use Rattle.rules.specs.Book.{nobody};
 ghost use Rattle.rules.specs.Day as day;
 ghost use Rattle.rules.specs.Levels.{afternoon_level};
@@ -17,10 +18,12 @@ ghost use Rattle.laws_sales.specs.Parties.{cut_before};
 ghost use Rattle.risk_members.specs.Members.{HoldingsOf};
 ghost use Rattle.risk_user.specs.States.{state_of};
 ghost use Rattle.user_levels.specs.Levels.{levels_after, levels_of, no_levels, user_rows};
+ghost use Rattle.store.specs.Asked.{figures_in};
 ghost use Rattle.call_answers.specs.Levels.{as_row, levels_told};
 
 use book_records::User;
-use call_answers::{LevelsAnswer, UserLevels};
+use call_answers::UserLevels;
+use refusals::Refusal;
 use risk_holdings::Holdings;
 use risk_user::{Day, State};
 use units::{Cents, Limits};
@@ -58,13 +61,8 @@ fn state_at(
 {
     let prices = book_header::read_prices(book);
     let position = holdings.positions();
-    let blocked = user.blocked;
-    let called = risk_levels::called_in(limits, prices, blocked, position, below_notified);
-    let day = Day {
-        limits: limits,
-        prices: prices,
-    };
-    risk_user::state_of(book, place, level, called, day)
+    let called = risk_levels::called_in(limits, prices, user.blocked, position, below_notified);
+    risk_user::state_of(book, place, level, called, Day { limits, prices })
 }
 
 // The levels and the state of the user at a place, given the sums of each user.
@@ -102,9 +100,9 @@ fn levels_at(
     );
     UserLevels {
         id: user.id,
-        state: state,
-        morning: morning,
-        afternoon: afternoon,
+        state,
+        morning,
+        afternoon,
     }
 }
 
@@ -123,10 +121,8 @@ fn rows_of(
     ensures { map as_row result ≡ user_rows (as_limits limits) (book_of book.now) }
 {
     let mut rows = no_users();
-    let mut i = 0;
-    while i < n {
+    for i in 0..n {
         rows[i] = levels_at(book, sums, i, limits, below_notified[i]);
-        i += 1;
     }
     rows
 }
@@ -164,37 +160,25 @@ fn fill_below_notified(
             &bearing_buyers,
             below_notified,
         );
-        return;
+    } else {
+        cut_parties::fill_below_notified(book, n, m, sellers, buyers, below_notified);
     }
-    cut_parties::fill_below_notified(book, n, m, sellers, buyers, below_notified);
 }
 
-// The levels and the state of every user, after the opening questions, whose number is given with the places of the trades' parties and the
-// sums of the users.
+// The levels and the state of every user, after the opening questions, with the places of the trades' parties and the sums of the users.
 pub fn levels(
     book: &[u8],
-    number: u32,
-    limits: Limits,
+    opened: Result<Limits, Refusal>,
     sellers: &[u8; 256],
     buyers: &[u8; 256],
     sums: &[u32; 768],
-) -> LevelsAnswer
-    requires { number ≡ 0 → Opened (as_limits limits) book.now sellers.now buyers.now sums.now }
-    ensures { levels_told result ≡ levels_after number (as_limits limits) book.now }
+) -> Result<[UserLevels; 64], Refusal>
+    requires { IfOk opened (λ limits. Opened (as_limits limits) book.now sellers.now buyers.now sums.now) }
+    ensures { levels_told result ≡ levels_after (number_in opened) (figures_in opened) book.now }
 {
-    if number != 0 {
-        let users = no_users();
-        return LevelsAnswer {
-            number: number,
-            users: users,
-        };
-    }
+    let limits = opened?;
     let n = book_format::user_count(book) as usize;
     let mut below_notified = [false; 64];
     fill_below_notified(book, sellers, buyers, &mut below_notified);
-    let users = rows_of(book, n, sums, &below_notified, limits);
-    LevelsAnswer {
-        number: 0,
-        users: users,
-    }
+    Ok(rows_of(book, n, sums, &below_notified, limits))
 }

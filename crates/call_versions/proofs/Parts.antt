@@ -1,5 +1,5 @@
 -- Header, users and trades of an accepted book as another version, from its bytes. Assumes nothing.
-use Rattle.base.specs.Basics.{◌≡◌, refl, sym, ap, ap₂, ◌∙◌, false, cond, ◌&&◌, List, [], ◌∷◌, ◌++◌, append_assoc, append-nil, ℕ, ◌+◌, ◌*◌, arith, T}
+use Rattle.base.specs.Basics.{◌≡◌, refl, sym, ap, ap₂, ◌∙◌, false, cond, ◌&&◌, List, [], ◌∷◌, ◌++◌, append_assoc, append-nil, ℕ, ◌*◌, arith, T}
 use Rattle.base.specs.Basics.{eqb, eqb→eq, length, take, drop, replicate, length-append, sets, drop_at, drop-drop, take_at}
 use Rattle.base.proofs.Tests.{and_l, and_r, by_case, fails, or_second}
 use Rattle.fields.specs.Field.{AllBytes, set_field, to_bytes}

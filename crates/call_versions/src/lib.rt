@@ -33,17 +33,14 @@ fn unmanaged(s: &[u8], at: usize, n: usize) -> bool
     requires { at + 68 * n ≤ length s.now }
     ensures { result ≡ all unmanaged_user (records_of 68 user_of n (drop at s.now)) }
 {
-    let mut i = 0;
-    let mut a = at;
-    while i < n {
+    for i in 0..n {
+        let a = at + book_records::MANAGED_SIZE * i;
         let pvb = fields::get_u32(s, a + book_records::MANAGERS);
         let tvb = fields::get_u32(s, a + book_records::MANAGER_TVB);
         let avb = fields::get_u32(s, a + book_records::MANAGER_AVB);
         if !((pvb == 0) & ((tvb == 0) & (avb == 0))) {
             return false;
         }
-        a += book_records::MANAGED_SIZE;
-        i += 1;
     }
     true
 }

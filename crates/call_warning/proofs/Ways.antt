@@ -1,14 +1,15 @@
 -- The ways out of a warning, of a trade that warns, and of a flagged shipper. Assumes nothing.
-use Rattle.base.specs.Basics.{◌≡◌, refl, sym, ap, subst, ◌∙◌, true, false, List, [], ◌∷◌, ℕ, ◌≤◌, ◌<◌, arith, T, get_or, eq-eqb, le-ltb, lt-ltb, ne_eqb}
+use Rattle.base.specs.Basics.{◌≡◌, refl, sym, ap, subst, ◌∙◌, Bool, true, false, ◌||◌, List, [], ◌∷◌, ℕ, ◌+◌, ◌≤◌, ◌<◌, arith, T, drop, get_or, eq-eqb, le-ltb, lt-ltb, ne_eqb}
+use Rattle.std.proofs.lemmas.List.{drop_all, drop_more}
 use Rattle.base.proofs.Linear.{by_order}
 use Rattle.base.specs.Lists.{any}
 use Rattle.rules.specs.Areas.{managers_in}
 use Rattle.rules.specs.Bearers.{as_borne, bearer}
-use Rattle.rules.specs.Book.{Book, Trade, User, bilateral_for_day, find, nobody}
+use Rattle.rules.specs.Book.{Book, Trade, User, bilateral_for_day, find, no_trade, nobody}
 use Rattle.rules.specs.Calls.{id_known, is_shipper}
 use Rattle.rules.specs.Levels.{Limits, buys, flagged, flagged_from, seller_of, shipper}
 use Rattle.rules.specs.Queries.{a_warning, about_query, found, only_number, reply_after, warned, warning, warns}
-use Rattle.rules.specs.Questions.{Question, after, known, refusal, trade_is_valid}
+use Rattle.rules.specs.Questions.{Question, after, first_of, known, refusal, trade_is_valid}
 use Rattle.laws.proofs.Managers.{bearer-known}
 use Rattle.laws.proofs.Positions.{seller_known}
 use Rattle.laws.proofs.Settle.{area-lt}
@@ -18,14 +19,14 @@ use Rattle.units.specs.declared.Net.{Net}
 use Rattle.units.specs.declared.Prices.{Prices}
 use Rattle.book_records.specs.User.{alone, as_amounts, as_user}
 use Rattle.book_records.specs.declared.User as code
-use Rattle.book_format.specs.Book.{book_of, count_of_users, users_of, version_of}
+use Rattle.book_format.specs.Book.{book_of, count_of_trades, count_of_users, trades_of, users_of, version_of}
 use Rattle.book_format.specs.Held.{Accepted}
 use Rattle.book_format.specs.Questions.{book_number}
 use Rattle.book_format.specs.Steps.{place_of}
 use Rattle.book_format.proofs.OneUser.{find_place, unknown_place}
-use Rattle.book_format.proofs.Passed.{length-users_of}
+use Rattle.book_format.proofs.Passed.{length-trades_of, length-users_of}
 use Rattle.call_entry.proofs.Calls.{query_found, query_refused}
-use Rattle.call_entry.specs.Entered.{Entered, Found}
+use Rattle.call_entry.specs.Entered.{Found}
 use Rattle.risk_bearers.specs.Bearers.{users_in}
 use Rattle.risk_holdings.specs.Holdings.{positioned}
 use Rattle.risk_members.proofs.Members.{read_blocked}
@@ -93,6 +94,32 @@ module _ (s : List ℕ) (passes : book_number s ≡ 0) {place : ℕ} (h : place 
   unfolding book_of
   flag_at limits prices priced v e = flagged_row (book_of s) place (omega (arith, length-users_of s)) limits priced v e
 
+-- ---- one trade after the other
+
+-- none of the first i warns: what is left to look at has the whole answer
+pub record Unwarned (p : Trade → Bool) (s : List ℕ) (i : ℕ) : Type 0 where
+  pub within : i ≤ count_of_trades s
+  pub left : any p (drop i (trades_of s)) ≡ any p (trades_of s)
+
+module _ (p : Trade → Bool) (s : List ℕ) where
+  -- what is left begins with the next trade
+  next_trade : (i : ℕ) → i < count_of_trades s → any p (drop i (trades_of s)) ≡ p (get_or (trades_of s) i no_trade) || any p (drop (i + 1) (trades_of s))
+  unfolding any
+  next_trade i h = ap (any p) (drop_more (trades_of s) i no_trade (omega (arith, length-trades_of s)))
+
+  next_is : {i : ℕ} {b : Bool} → i < count_of_trades s → p (get_or (trades_of s) i no_trade) ≡ b → (b || any p (drop (i + 1) (trades_of s))) ≡ any p (drop i (trades_of s))
+  next_is {i} h e = sym (next_trade i h ∙ ap (λ (b : Bool). b || any p (drop (i + 1) (trades_of s))) e)
+
+  pub warned_here : {i : ℕ} → Unwarned p s i → i < count_of_trades s → p (get_or (trades_of s) i no_trade) ≡ true → true ≡ any p (trades_of s)
+  warned_here now h e = next_is h e ∙ now.left
+
+  pub unwarned_next : {i : ℕ} → Unwarned p s i → i < count_of_trades s → p (get_or (trades_of s) i no_trade) ≡ false → Unwarned p s (i + 1)
+  unwarned_next now h e = record { within = omega arith; left = next_is h e ∙ now.left }
+
+  pub none_warned : {i : ℕ} → Unwarned p s i → count_of_trades s ≤ i → false ≡ any p (trades_of s)
+  unfolding any
+  none_warned {i} now h = ap (any p) (sym (drop_all i (trades_of s) (omega (arith, length-trades_of s)))) ∙ now.left
+
 -- ---- who bears the seller's risk
 
 module _ (s : List ℕ) (a : Accepted s) (t : Trade) (valid : T (trade_is_valid (users_of s) t)) where
@@ -124,7 +151,7 @@ module _ (before : ℕ) (limits : Limits) (s : List ℕ) (id : ℕ) where
   unfolding about_query rest
   own = refl
 
-  pub warning_refused : {n place : ℕ} → Entered before s id n place → (n ≡ 0 → ⊥) → only_number n ≡ reply_after before limits (book_of s) (warning id)
+  pub warning_refused : {n : ℕ} → n ≡ first_of before (refusal (id_known (book_of s) id ∷ [])) → (n ≡ 0 → ⊥) → only_number n ≡ reply_after before limits (book_of s) (warning id)
   warning_refused e h = sym (query_refused before limits s id rest (warning id) own e h)
 
   module _ {place : ℕ} (o : before ≡ 0) (f : Found s id place) where

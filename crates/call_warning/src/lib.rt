@@ -1,7 +1,8 @@
 // The midday warning of a user: is it flagged, or buyer of a bilateral trade of the day that stands, whose seller is a flagged shipper?
 #![tactic(auto)]
 
-ghost use Rattle.std.specs.Prelude.{◌≡◌, T};
+ghost use Rattle.std.specs.Prelude.{◌≡◌, T, IfOk};
+ghost use Rattle.refusals.specs.Refusal.{number_in};
 ghost use Rattle.rules.specs.Book.{find};
 ghost use Rattle.rules.specs.Levels.{seller_of};
 ghost use Rattle.rules.specs.Queries.{reply_after};
@@ -12,18 +13,20 @@ ghost use Rattle.book_records.specs.Trade.{as_trade};
 ghost use Rattle.book_format.specs.Book.{book_of, users_of};
 ghost use Rattle.book_format.specs.Held.{Accepted};
 ghost use Rattle.book_questions.specs.Opened.{OpenedFigures};
+ghost use Rattle.store.specs.Asked.{figures_in};
 ghost use Rattle.call_answers.specs.Warning.{reply_of};
 ghost use Rattle.call_warning.specs.Warned.{Priced, flagged_shipper, buyer_is_warned, warning_of};
 
 use book_records::Trade;
-use call_answers::WarningAnswer;
-use units::{Limits, Prices};
+use refusals::Refusal;
+use risk_user::Day;
+use units::Limits;
 
 // Is the user of an id, who is in the book, a flagged shipper?
-fn is_flagged_shipper(book: &[u8], prices: Prices, id: u32, limits: Limits) -> bool
-    requires priced { Priced book.now prices × T (known (users_of book.now) id) }
-    requires limits_in_range { LimitsInRange (as_limits limits) }
-    ensures { result ≡ flagged_shipper (as_limits limits) (book_of book.now) (find (book_of book.now).users id) }
+fn is_flagged_shipper(book: &[u8], day: Day, id: u32) -> bool
+    requires priced { Priced book.now day.prices × T (known (users_of book.now) id) }
+    requires limits_in_range { LimitsInRange (as_limits day.limits) }
+    ensures { result ≡ flagged_shipper (as_limits day.limits) (book_of book.now) (find (book_of book.now).users id) }
 {
     let place = call_entry::place_of(book, id);
     let seller = book_format::user_at(book, place);
@@ -31,7 +34,7 @@ fn is_flagged_shipper(book: &[u8], prices: Prices, id: u32, limits: Limits) -> b
         return false;
     }
     let position = risk_members::positions_of(book, place, seller);
-    risk_levels::flagged(limits, prices, seller.blocked, position)
+    risk_levels::flagged(day.limits, day.prices, seller.blocked, position)
 }
 
 // The id of who bears the risk of the seller of a trade of the book: "at midday the manager's flag stands for a managed seller's". In a
@@ -48,10 +51,10 @@ fn bearer_of(book: &[u8], t: Trade) -> u32
 }
 
 // Is the user of an id the buyer of the trade, and does the trade warn its buyer?
-fn warns_buyer(book: &[u8], prices: Prices, t: Trade, id: u32, limits: Limits) -> bool
-    requires priced { Priced book.now prices × T (trade_is_valid (users_of book.now) (as_trade t)) }
-    requires limits_in_range { LimitsInRange (as_limits limits) }
-    ensures { result ≡ buyer_is_warned (as_limits limits) (book_of book.now) id (as_trade t) }
+fn warns_buyer(book: &[u8], day: Day, t: Trade, id: u32) -> bool
+    requires priced { Priced book.now day.prices × T (trade_is_valid (users_of book.now) (as_trade t)) }
+    requires limits_in_range { LimitsInRange (as_limits day.limits) }
+    ensures { result ≡ buyer_is_warned (as_limits day.limits) (book_of book.now) id (as_trade t) }
 {
     if t.buyer != id {
         return false;
@@ -63,63 +66,45 @@ fn warns_buyer(book: &[u8], prices: Prices, t: Trade, id: u32, limits: Limits) -
         return false;
     }
     let seller = bearer_of(book, t);
-    is_flagged_shipper(book, prices, seller, limits)
+    is_flagged_shipper(book, day, seller)
 }
 
 // Does one of the trades warn the user of an id?
-fn any_warns(book: &[u8], prices: Prices, id: u32, limits: Limits) -> bool
-    requires priced { Priced book.now prices }
-    requires limits_in_range { LimitsInRange (as_limits limits) }
-    ensures { result ≡ any (buyer_is_warned (as_limits limits) (book_of book.now) id) (book_of book.now).trades }
+fn any_warns(book: &[u8], day: Day, id: u32) -> bool
+    requires priced { Priced book.now day.prices }
+    requires limits_in_range { LimitsInRange (as_limits day.limits) }
+    ensures { result ≡ any (buyer_is_warned (as_limits day.limits) (book_of book.now) id) (book_of book.now).trades }
 {
     let n = book_format::user_count(book) as usize;
     let m = book_format::trade_count(book) as usize;
     let at = book_format::trades_offset(book, n);
-    let mut i = 0;
-    let mut a = at;
-    while i < m {
-        let t = book_records::read_trade(&book[a..a + book_records::TRADE_SIZE]);
-        if warns_buyer(book, prices, t, id, limits) {
+    for i in 0..m {
+        let t = book_format::trade_at(book, at, i);
+        if warns_buyer(book, day, t, id) {
             return true;
         }
-        a += book_records::TRADE_SIZE;
-        i += 1;
     }
     false
 }
 
-// The warning of the user of an id, after the opening questions, whose number is given.
-pub fn warning(book: &[u8], number: u32, limits: Limits, id: u32) -> WarningAnswer
-    requires { number ≡ 0 → OpenedFigures (as_limits limits) book.now }
-    ensures { reply_of result ≡ reply_after number (as_limits limits) (book_of book.now) (warning_of id) }
+// The warning of the user of an id, after the opening questions.
+pub fn warning(book: &[u8], opened: Result<Limits, Refusal>, id: u32) -> Result<bool, Refusal>
+    requires { IfOk opened (λ limits. OpenedFigures (as_limits limits) book.now) }
+    ensures { reply_of result ≡ reply_after (number_in opened) (figures_in opened) (book_of book.now) (warning_of id) }
 {
-    let entry = call_entry::seek(book, number, id);
-    let number = entry.number;
-    let place = entry.place;
-    if number != 0 {
-        return WarningAnswer {
-            number: number,
-            warned: false,
-        };
-    }
-    let user = book_format::user_at(book, place);
+    let entry = call_entry::seek(book, opened, id)?;
+    let user = book_format::user_at(book, entry.place);
     if user.role != 0 {
-        return WarningAnswer {
-            number: 9,
-            warned: false,
-        };
+        return Err(Refusal::NoShipper);
     }
     let prices = book_header::read_prices(book);
-    let position = risk_members::positions_of(book, place, user);
-    if risk_levels::flagged(limits, prices, user.blocked, position) {
-        return WarningAnswer {
-            number: 0,
-            warned: true,
-        };
+    let position = risk_members::positions_of(book, entry.place, user);
+    if risk_levels::flagged(entry.limits, prices, user.blocked, position) {
+        return Ok(true);
     }
-    let warned = any_warns(book, prices, user.id, limits);
-    WarningAnswer {
-        number: 0,
-        warned: warned,
-    }
+    let day = Day {
+        limits: entry.limits,
+        prices,
+    };
+    Ok(any_warns(book, day, user.id))
 }

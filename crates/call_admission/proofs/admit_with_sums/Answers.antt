@@ -1,20 +1,23 @@
 -- `admit_with_sums` asks the book, then 26, then the store: where nothing refuses the book refused nothing, so that places and sums are told. Assumes nothing.
-use Rattle.base.specs.Basics.{◌∙◌, sym}
+use Rattle.base.specs.Basics.{◌∙◌}
 use Rattle.book_questions.proofs.Asked.{book_opened}
-use Rattle.call_admission.proofs.Asked.{admitted_book, admitted_by}
+use Rattle.refusals.proofs.Numbers.{handed_on}
+use Rattle.call_admission.proofs.Asked.{admitted_by, admitted_refused, entered_book, refused_range, when_summed}
 use Rattle.call_admission.proofs.admit_with_sums.Goals as goal
 
-pub ask-entered-requires : goal.ask-entered-requires
-ask-entered-requires c = record { asked_value = c.ask-asked.ensures.asked_of.number; matter_bound = c.requires.matter_bound }
+pub returns-in_err-ask-clause-admitted : goal.returns-in_err-ask-clause-admitted
+returns-in_err-ask-clause-admitted c = rw (handed_on c.from_residual.ensures.1) (admitted_refused _ _ _ c.in_err-ask.ensures.value)
+
+pub returns-in_err-ask-clause-limits_in_range : goal.returns-in_err-ask-clause-limits_in_range
+returns-in_err-ask-clause-limits_in_range c = rw (handed_on c.from_residual.ensures.1) refused_range
 
 pub by_store-requires : goal.by_store-requires
-by_store-requires c = λ e. sym c.ask-asked.ensures.asked_of.number ∙ c.ask-entered.ensures.asked_value_2 e
+by_store-requires c = entered_book _ _ _ c.in_ok-ask.ensures.value
 
-pub returns : goal.returns
-returns c = let long = c.requires.sellers_len in
-    let told = c.ask-asked in record {
-      admitted = admitted_by _ _ c.ask-entered.ensures.value c.by_store.ensures.admitted;
-      limits_in_range = c.by_store.ensures.limits_in_range;
-      opened = λ z. book_opened told.ensures.asked_of (λ j. (c.type_inv.book j).fits) (admitted_book _ _ c.ask-entered.ensures.value c.by_store.ensures.admitted z)
-          (told.auto.sellers ∙ long.0) (told.auto.buyers ∙ long.1) told.ensures.summed c.by_store.ensures.limits_in_range;
-    }
+pub returns-clause-admitted : goal.returns-clause-admitted
+returns-clause-admitted c = admitted_by c.in_ok-ask.ensures.value c.by_store.ensures.admitted
+
+pub returns-clause-opened : goal.returns-clause-opened
+returns-clause-opened c = let told = c.ask-told in
+    when_summed _ (book_opened told.ensures.asked_of (λ j. (c.type_inv.book j).fits) (entered_book _ _ _ c.in_ok-ask.ensures.value)
+    (told.auto.sellers ∙ c.requires.0) (told.auto.buyers ∙ c.requires.1) told.ensures.summed c.by_store.ensures.limits_in_range)

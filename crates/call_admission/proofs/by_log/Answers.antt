@@ -1,13 +1,18 @@
 -- `by_log` asks 19 where no question before it refuses. Assumes nothing.
+use Rattle.base.specs.Basics.{refl}
 use Rattle.book_format.proofs.Passed.{passed}
+use Rattle.refusals.proofs.Numbers.{handed_on, refused-nonzero}
 use Rattle.call_admission.proofs.Log.{log_asked, log_unasked}
 use Rattle.call_admission.proofs.by_log.Goals as goal
 
-pub returns-then-asked-ne0 : goal.returns-then-asked-ne0
-returns-then-asked-ne0 c = let a = c.args in log_unasked a.log.now a.book.now a.with_log c.if-asked-ne0.true
+pub returns-in_err-limits-clause-asked : goal.returns-in_err-limits-clause-asked
+returns-in_err-limits-clause-asked c = rw (handed_on c.from_residual.ensures.1, c.in_err-limits.was) (log_unasked _ _ _ (refused-nonzero _))
 
-pub number-requires : goal.number-requires
-number-requires c = (passed c.args.book.now (c.requires c.if-asked-ne0.false)).form
+pub check-requires : goal.check-requires
+check-requires c = (passed c.args.book.now (c.requires (rw c.in_ok-limits.was refl))).form
 
-pub returns : goal.returns
-returns c = let a = c.args in log_asked a.log.now a.book.now a.with_log c.if-asked-ne0.false c.number.ensures
+pub returns-in_err-check-clause-asked : goal.returns-in_err-check-clause-asked
+returns-in_err-check-clause-asked c = rw (handed_on c.from_residual-in_err-check.ensures.1, c.in_ok-limits.was) (log_asked _ _ _ refl c.in_err-check.ensures)
+
+pub returns-clause-asked : goal.returns-clause-asked
+returns-clause-asked c = rw c.in_ok-limits.was (log_asked _ _ _ refl c.in_ok-check.ensures)

@@ -22,9 +22,6 @@ pub bounds-marks-i : goal.bounds-marks-i
 bounds-marks-i c = let q = c.requires.0 in
     omega (arith, c.loop-i.invariant.inside, trades-length q, trades_few q, c.loop-i-test.true)
 
-pub loop-i-smaller : goal.loop-i-smaller
-loop-i-smaller c = omega (arith, c.loop-i-test.true)
-
 pub loop-i-preserved : goal.loop-i-preserved
 loop-i-preserved c = marked_more c.requires.0 c.loop-i.invariant c.loop-i-test.true refl refl c.eligible_at-eligible.ensures c.is_marked.ensures c.left_before-rest.ensures
 

@@ -7,6 +7,3 @@ use Rattle.call_cancellation.proofs.marks_of.Given as goal
 
 abbrev pub invariant-loop-i : goal.invariant-loop-i
 invariant-loop-i l = Marking (eligible (book_of l.book) (get_or (users_of l.book) l.place nobody)) (book_of l.book).trades l.left l.marks l.rest l.i
-
-abbrev pub decreases-loop-i : goal.decreases-loop-i
-decreases-loop-i l = l.i

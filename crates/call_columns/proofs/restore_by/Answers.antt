@@ -1,5 +1,5 @@
--- `restore_by` answers 29 where no book is rebuilt, 30 where the output is too short, and else copies the book over the front of the output. Assumes nothing.
-use Rattle.base.specs.Basics.{◌≡◌, refl, sym, ap, ◌∙◌, true, ◌++◌, length, take, drop, take-length, not-true, not-false}
+-- `restore_by` refuses with 29 where no book is rebuilt, with 30 where the output is too short, and else copies the book over the front of the output. Assumes nothing.
+use Rattle.base.specs.Basics.{◌≡◌, refl, sym, ap, ◌∙◌, true, length, take-length}
 use Rattle.base.proofs.Tests.{holds}
 use Rattle.book_columns.specs.Form.{book_from, yields}
 use Rattle.book_columns.proofs.Forms.{length-book_from}
@@ -9,10 +9,10 @@ use Rattle.call_columns.proofs.restore_by.Goals.{Else-not-rebuild}
 
 pub returns-then-not-rebuild : goal.returns-then-not-rebuild
 returns-then-not-rebuild c = let a = c.args in
-    restored_not a.form.now a.out.now (sym c.rebuild.ensures.answer ∙ not-true _ c.if-not-rebuild.true-raw)
+    restored_not a.form.now a.out.now (sym c.rebuild.ensures.answer ∙ c.if-not-rebuild.true)
 
 is-accepted : (c : goal.Else-not-rebuild) → c.rebuild.result ≡ true
-is-accepted c = not-false _ c.if-not-rebuild.false-raw
+is-accepted c = c.if-not-rebuild.false
 
 does-yield : (c : goal.Else-not-rebuild) → yields c.args.form.now ≡ true
 does-yield c = sym c.rebuild.ensures.answer ∙ is-accepted c

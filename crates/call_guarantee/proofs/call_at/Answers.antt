@@ -10,7 +10,7 @@ pub level_of-level-requires : goal.level_of-level-requires
 level_of-level-requires c = record { opened_figures = (c.requires.opened_figures.0, c.requires.opened_figures.2); user_value = c.requires.user_value }
 
 pub is_due-due-requires : goal.is_due-due-requires
-is_due-due-requires c = record { opened_figures = c.requires.opened_figures; user_value = (c.requires.user_value.0, positions_held c.args.book.now c.requires.opened_figures.0.accepted c.requires.opened_figures.2 c.args.holdings c.requires.user_value.1) }
+is_due-due-requires c = record { opened_figures = c.requires.opened_figures; user_value = (c.requires.user_value.0, rw c.positions.ensures (positions_held c.args.book.now c.requires.opened_figures.0.accepted c.requires.opened_figures.2 c.args.holdings c.requires.user_value.1)) }
 
 pub raise-requires : goal.raise-requires
 raise-requires c = record { form = c.requires.opened_figures.0.accepted.held.form; inside = c.requires.opened_figures.2 }

@@ -1,5 +1,5 @@
 -- `is_due`: below the margin the answer is no; above it, it is yes in the morning, and in the afternoon that of called in. Assumes nothing.
-use Rattle.base.specs.Basics.{◌≡◌, sym, ap, subst, ◌∙◌, ℕ, ◌≤◌, arith, get_or, rules, not-true, not-false}
+use Rattle.base.specs.Basics.{◌≡◌, sym, ap, subst, ◌∙◌, ℕ, ◌≤◌, arith, get_or, not-true, not-false}
 use Rattle.rules.specs.Book.{User, nobody}
 use Rattle.rules.specs.Levels.{exceeds_its_margin}
 use Rattle.units.specs.Limits.{as_limits}
@@ -76,6 +76,6 @@ returns-then-afternoon c = let a = c.args in
     (called_row (book_of bytes) a.place (omega (arith, c.requires.opened_figures.2, length-users_of bytes)) (as_limits a.limits) (priced (goal.at.returns-then-afternoon c).After-read_prices-prices) a.position c.requires.user_value.1
     (c.called_in.ensures (user (goal.at.returns-then-afternoon c).Start) (blocked-is (goal.at.returns-then-afternoon c).Start)) (c.below_notified_at-below_notified.ensures ∙ ap (λ (id : ℕ). cut_before id (trades_in bytes)) (id_in_lem bytes a.place)))
 
-pub returns : goal.returns
+pub returns-else-afternoon : goal.returns-else-afternoon
 unfolding due_of
-returns c = rw c.if-afternoon.false (sym (sym (margin (goal.at.returns c).After-exceeds_margin) ∙ not-false c.exceeds_margin.result c.if-not-exceeds_margin.false-raw))
+returns-else-afternoon c = rw c.if-afternoon.false (sym (sym (margin (goal.at.returns-else-afternoon c).After-exceeds_margin) ∙ not-false c.exceeds_margin.result c.if-not-exceeds_margin.false-raw))

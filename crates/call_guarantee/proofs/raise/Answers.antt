@@ -10,18 +10,18 @@ use Rattle.call_guarantee.proofs.raise.Goals as goal
 pub returns-then-not-due : goal.returns-then-not-due
 returns-then-not-due c = let a = c.args in
     let e = raised_undue a.book.now a.place (as_user a.user) a.level.0 c.if-not-due.true in
-    record { result_value = c.refused.ensures ∙ sym (ap (λ (x : Result (List ℕ)). x.answer) e); book_after = sym (ap (λ (x : Result (List ℕ)). x.book) e) }
+    record { result_value = sym (ap (λ (x : Result (List ℕ)). x.answer) e); book_after = sym (ap (λ (x : Result (List ℕ)). x.book) e) }
 
-pub returns-then-assigned-level : goal.returns-then-assigned-level
+pub returns-then-user-level : goal.returns-then-user-level
 unfolding as_user
-returns-then-assigned-level c = let a = c.args in
-    let e = raised_short a.book.now a.place (as_user a.user) a.level.0 c.if-not-due.false c.if-assigned-level.true in
-    record { result_value = c.refused-then-assigned-level.ensures ∙ sym (ap (λ (x : Result (List ℕ)). x.answer) e); book_after = sym (ap (λ (x : Result (List ℕ)). x.book) e) }
+returns-then-user-level c = let a = c.args in
+    let e = raised_short a.book.now a.place (as_user a.user) a.level.0 c.if-not-due.false c.if-user-level.true in
+    record { result_value = sym (ap (λ (x : Result (List ℕ)). x.answer) e); book_after = sym (ap (λ (x : Result (List ℕ)). x.book) e) }
 
 pub returns : goal.returns
 unfolding of_level as_user
 returns c = let a = c.args in
-    let e = raised_full a.book.now a.place (as_user a.user) a.level.0 c.if-not-due.false c.if-assigned-level.false in record {
+    let e = raised_full a.book.now a.place (as_user a.user) a.level.0 c.if-not-due.false c.if-user-level.false in record {
       result_value = ap
           (of_level a.level.0) c.blocked_user-blocking.ensures.added_is ∙ sym (ap (λ (x : Result (List ℕ)). x.answer) e);
       book_after = c.put_user.ensures ∙ ap

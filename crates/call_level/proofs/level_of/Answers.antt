@@ -55,11 +55,11 @@ returns-then-afternoon c = let b = book_of c.args.book.now in
 pub morning_level-requires : goal.morning_level-requires
 morning_level-requires c = (c.requires.opened_figures.0.limits_in, ranged (goal.at.morning_level-requires c).After-read_prices-prices, c.requires.user_value.1.low)
 
-pub returns : goal.returns
+pub returns-else-afternoon : goal.returns-else-afternoon
 unfolding level_of_user book_of
-returns c = let b = book_of c.args.book.now in
+returns-else-afternoon c = let b = book_of c.args.book.now in
     let h = c.args.holdings in
     rw c.if-afternoon.false
     (c.morning_level.ensures
-    ∙ ap (λ (z : ℤ). floored (as_limits c.args.limits) (morning_sum (as_prices c.read_prices-prices.result) (held_in h) z)) (charged (goal.at.returns c).Start)
-    ∙ morning_row b c.args.place (member (goal.at.returns c).Start) (as_limits c.args.limits) (priced (goal.at.returns c).After-read_prices-prices) h c.requires.user_value.1.each)
+    ∙ ap (λ (z : ℤ). floored (as_limits c.args.limits) (morning_sum (as_prices c.read_prices-prices.result) (held_in h) z)) (charged (goal.at.returns-else-afternoon c).Start)
+    ∙ morning_row b c.args.place (member (goal.at.returns-else-afternoon c).Start) (as_limits c.args.limits) (priced (goal.at.returns-else-afternoon c).After-read_prices-prices) h c.requires.user_value.1.each)

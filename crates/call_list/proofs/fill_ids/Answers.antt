@@ -35,6 +35,3 @@ bounds-known-i c = omega (arith, inside (goal.at.bounds-known-i c).In-loop-i)
 
 pub overflow_add-a : goal.overflow_add-a
 overflow_add-a c = omega (arith, inside (goal.at.overflow_add-a c).In-loop-i)
-
-pub overflow_add-i : goal.overflow_add-i
-overflow_add-i c = omega (arith, inside (goal.at.overflow_add-i c).In-loop-i)

@@ -14,13 +14,13 @@ even : (c : goal.In-loop-i) → let a = c.args in
     (length a.areas.now ≡ length a.ids.now) × (length a.amounts.now ≡ length a.ids.now) × (length c.loop-i.places ≡ length a.ids.now)
 even c = let p = c.requires.even in (p.of_areas, p.of_amounts, c.loop-i.invariant.room)
 
-pub line-number-requires : goal.line-number-requires
-line-number-requires c = record { known = c.loop-i.invariant.searched; guesses = c.requires.guesses }
+pub line-posted-requires : goal.line-posted-requires
+line-posted-requires c = record { known = c.loop-i.invariant.searched; guesses = c.requires.guesses }
 
 pub loop-i-preserved : goal.loop-i-preserved
 loop-i-preserved c = let z = get_or c.args.amounts.now c.loop-i.i (pos 0) in
-    going_more c.line-number.result c.loop-i.invariant c.loop-i-test.true c.requires.even.of_areas c.requires.even.of_amounts
-    (λ limits. rw (to_z-of_z w64 z (record { sfits = c.line-arg-in-loop-i-1.given })) at (c.line-number.ensures limits))
+    going_more c.number_of.result c.loop-i.invariant c.loop-i-test.true c.requires.even.of_areas c.requires.even.of_amounts
+    (λ limits. rw c.number_of.ensures (rw (to_z-of_z w64 z (record { sfits = c.line-arg-in-loop-i-1.given })) at (c.line-posted.ensures limits)))
     (search rules)
 
 pub returns : goal.returns

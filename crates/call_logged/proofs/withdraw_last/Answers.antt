@@ -1,9 +1,10 @@
 -- `withdraw_last`: the cuts of the last entry are tallied and given back, the entry is dropped, and the log holds the book. Assumes nothing.
-use Rattle.base.specs.Basics.{◌≡◌, subst, sym, ◌≤◌, arith, length-take, length-drop}
+use Rattle.base.specs.Basics.{◌≡◌, refl, subst, sym, ◌≤◌, arith, length-take, length-drop}
 use Rattle.book_format.proofs.Places.{header_lies}
 use Rattle.book_format.specs.Book.{book_of, count_of_trades, trades_at, count_of_users}
 use Rattle.fields.specs.Field.{AllBytes}
 use Rattle.log_format.proofs.Read.{FitLog, fits_facts}
+use Rattle.rules.specs.Calls.{answer_of_run}
 use Rattle.risk_user.proofs.Accepted.{prices_in}
 use Rattle.units.specs.Prices.{InRange, as_prices}
 use Rattle.call_logged.proofs.LastEntry.{part_within, withdrawal_gives}
@@ -92,8 +93,9 @@ pub seal-requires : goal.seal-requires
 seal-requires c = (omega (arith, c.drop_entry.auto.log, (facts (goal.at.seal-requires c).Start).size), omega (arith, c.give_back.auto.book, (facts (goal.at.seal-requires c).Start).room))
 
 pub returns : goal.returns
+unfolding answer_of_run
 returns c = let l = c.args.log.now in
     withdrawal_gives l c.args.book.now (s-bytes (goal.at.returns c).After-slice_known-2-1) (few (goal.at.returns c).Start) c.requires.1 c.args.place c.requires.2
     c.entry_offset-from.ensures.0 (trades-are (goal.at.returns c).After-trade_count-m) (prices-are (goal.at.returns c).After-read_prices-prices)
     c.tally-tally.ensures c.give_back.ensures c.drop_entry.ensures c.seal.ensures
-    c.withdrawn.ensures
+    refl

@@ -20,7 +20,7 @@ fill_bearers-requires c = (c.requires.book_in.0.accepted, c.requires.book_in.1, 
 pub bear_trades-requires : goal.bear_trades-requires
 bear_trades-requires c = record {
   book_in = (c.requires.book_in.0, c.trades_offset-at.ensures, c.trade_count-m.ensures, bearing c.args.book.now _ c.requires.book_in.0.accepted c.fill_bearers.ensures);
-  bearing_sellers_len = (c.requires.bearing_sellers_len.0, c.requires.bearing_sellers_len.1, c.clear_sums.ensures);
+  bearing_sellers_len = (c.requires.bearing_sellers_len.0, c.requires.bearing_sellers_len.1, refl);
 }
 
 pub returns : goal.returns

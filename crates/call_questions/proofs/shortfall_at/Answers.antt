@@ -1,5 +1,7 @@
 -- `shortfall_at`: the state of the user says which question refuses, and its level what is owed where none does. Assumes nothing.
-use Rattle.base.specs.Basics.{◌≡◌, arith, get_or}
+use Rattle.base.specs.Basics.{◌≡◌, refl, sym, ap, ◌∙◌, arith, get_or}
+use Rattle.refusals.proofs.Numbers.{handed_on, refused-nonzero}
+use Rattle.refusals.specs.Refusal.{number_in}
 use Rattle.book_format.specs.Book.{book_of, count_of_trades, count_of_users, users_of}
 use Rattle.book_format.specs.Places.{UserIn}
 use Rattle.units.specs.Limits.{as_limits}
@@ -54,12 +56,14 @@ level_at-level-requires c = (day-is (goal.at.level_at-level-requires c).Start, u
 pub state_of-requires : goal.state_of-requires
 state_of-requires c = (day-is (goal.at.state_of-requires c).Start, user-in (goal.at.state_of-requires c).Start)
 
-pub returns-then-number-ne0 : goal.returns-then-number-ne0
-returns-then-number-ne0 c = record {
-  shortfall_of = refused_shortfall c.requires.0.risk c.requires.1 c.fill_positions.ensures.0 (level-is (goal.at.returns-then-number-ne0 c).After-level_at-level)
-      (called_is (goal.at.returns-then-number-ne0 c).After-level_at-level) c.refused_by-number.ensures c.state_of.ensures c.if-number-ne0.true;
-  positions_of = c.fill_positions.ensures;
-}
+pub returns-in_err-refused_by : goal.returns-in_err-refused_by
+returns-in_err-refused_by c = let e = c.in_err-refused_by.field-0.0 in
+    rw (handed_on c.from_residual.ensures.1)
+    (record {
+      shortfall_of = refused_shortfall c.requires.0.risk c.requires.1 c.fill_positions.ensures.0 (level-is (goal.at.returns-in_err-refused_by c).After-level_at-level)
+          (called_is (goal.at.returns-in_err-refused_by c).After-level_at-level) (ap number_in (sym c.in_err-refused_by.was) ∙ c.refused_by.ensures) c.state_of.ensures (refused-nonzero e);
+      positions_of = c.fill_positions.ensures;
+    })
 
 pub target_of-requires : goal.target_of-requires
 target_of-requires c = (day-is (goal.at.target_of-requires c).Start, user-in (goal.at.target_of-requires c).Start)
@@ -67,6 +71,6 @@ target_of-requires c = (day-is (goal.at.target_of-requires c).Start, user-in (go
 pub returns : goal.returns
 returns c = record {
   shortfall_of = owed_shortfall c.requires.0.risk c.requires.1 c.fill_positions.ensures.0 (level-is (goal.at.returns c).After-level_at-level)
-      (called_is (goal.at.returns c).After-level_at-level) c.refused_by-number.ensures c.state_of.ensures c.if-number-ne0.false c.target_of.ensures;
+      (called_is (goal.at.returns c).After-level_at-level) (ap number_in (sym c.in_ok-refused_by.was) ∙ c.refused_by.ensures) c.state_of.ensures refl c.target_of.ensures;
   positions_of = c.fill_positions.ensures;
 }

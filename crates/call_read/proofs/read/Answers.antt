@@ -1,13 +1,8 @@
--- `read` asks and gives a blank book, or for the operator opens the book. Assumes nothing.
-use Rattle.base.specs.Basics.{arith}
-use Rattle.call_read.proofs.Ways.{read_operator, read_other}
+-- `read` asks, and reads bytes that pass every question, which are of the right form. Assumes nothing.
+use Rattle.base.specs.Basics.{sym}
+use Rattle.book_format.proofs.Passed.{passed}
+use Rattle.rights.proofs.Entered.{entering_book}
 use Rattle.call_read.proofs.read.Goals as goal
 
-pub ask-entered-requires : goal.ask-entered-requires
-ask-entered-requires c = record { asked_value = c.number-asked.ensures; matter_bound = omega arith }
-
-pub returns-then-party-ne-OPERATOR : goal.returns-then-party-ne-OPERATOR
-returns-then-party-ne-OPERATOR c = read_other c.if-party-ne-OPERATOR.true c.ask-entered.ensures.value c.no_book-blank.ensures
-
-pub returns : goal.returns
-returns c = read_operator c.if-party-ne-OPERATOR.false c.open.ensures
+pub read_book-requires : goal.read_book-requires
+read_book-requires c = (passed c.args.bytes.now (entering_book _ _ _ (sym c.in_ok-ask.ensures.value))).form

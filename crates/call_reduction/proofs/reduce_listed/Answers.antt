@@ -29,8 +29,8 @@ any_left-requires c = (part_few (user_run c.requires.user_of c.requires.listed) 
 pub returns-then-not-any_left : goal.returns-then-not-any_left
 returns-then-not-any_left c = let a = c.args in
     let left = c.any_left in record {
-      gives = own_refused c.requires.user_of c.requires.listed (room_asked a.with_log a.log.now) a.asked.0 left.ensures c.if-not-any_left.true c.refused.ensures;
-      log_after = noted_refused a.with_log (cuts (book_of a.book.now) (get_or (users_of a.book.now) a.place nobody) a.asked.0) a.book.now a.book.now a.log.now (λ z. omega (arith, z)) c.refused.ensures;
+      gives = own_refused c.requires.user_of c.requires.listed (room_asked a.with_log a.log.now) a.asked.0 left.ensures c.if-not-any_left.true refl;
+      log_after = noted_refused a.with_log (cuts (book_of a.book.now) (get_or (users_of a.book.now) a.place nobody) a.asked.0) a.book.now a.book.now a.log.now (λ z. omega (arith, z)) refl;
     }
 
 pub has_room-requires : goal.has_room-requires
@@ -40,8 +40,8 @@ pub returns-then-not-has_room : goal.returns-then-not-has_room
 returns-then-not-has_room c = let a = c.args in
     let left = c.any_left in record {
       gives = own_full c.requires.user_of c.requires.listed (room_asked a.with_log a.log.now) a.asked.0 left.ensures c.if-not-any_left.false
-          (room_full a.log.now a.with_log (sym c.has_room.ensures ∙ not-true _ c.if-not-has_room.true-raw)) c.refused-then-not-has_room.ensures;
-      log_after = noted_refused a.with_log (cuts (book_of a.book.now) (get_or (users_of a.book.now) a.place nobody) a.asked.0) a.book.now a.book.now a.log.now (λ z. omega (arith, z)) c.refused-then-not-has_room.ensures;
+          (room_full a.log.now a.with_log (sym c.has_room.ensures ∙ not-true _ c.if-not-has_room.true-raw)) refl;
+      log_after = noted_refused a.with_log (cuts (book_of a.book.now) (get_or (users_of a.book.now) a.place nobody) a.asked.0) a.book.now a.book.now a.log.now (λ z. omega (arith, z)) refl;
     }
 
 pub reduce-tally-requires : goal.reduce-tally-requires

@@ -1,27 +1,28 @@
--- `ask`: the book's number, or by the party 0 or 26. Assumes nothing.
-use Rattle.base.specs.Basics.{◌∙◌, sym}
-use Rattle.call_rights.proofs.Ways.{asked_refused, for_another, for_no_shipper, for_operator, for_shipper}
+-- `ask`: the book's refusal, or by the party and the matter none or 26. Assumes nothing.
+use Rattle.std.proofs.lemmas.Result.{err_from_is_err_and}
+use Rattle.refusals.proofs.Numbers.{refused-nonzero}
+use Rattle.call_rights.proofs.Ways.{allowed, anothers, asked_refused, forbidden, operators_alone, operators_right, own_no_shipper, own_shipper}
 use Rattle.call_rights.proofs.ask.Goals as goal
 
-pub returns-then-asked-ne0 : goal.returns-then-asked-ne0
-returns-then-asked-ne0 c = let a = c.args in
-    record { value = asked_refused a.book.now a.party a.matter c.requires.asked_value c.if-asked-ne0.true; asked_value_2 = λ e. e }
+pub returns-in_err-asked-clause-value : goal.returns-in_err-asked-clause-value
+returns-in_err-asked-clause-value c = let p = err_from_is_err_and c.from_residual.result c.from_residual.ensures.1 in
+    rw (p.1, p.2) (asked_refused _ _ _ (rw c.in_err-asked.was at c.requires) (refused-nonzero _))
 
-pub returns-then-party-eq-OPERATOR : goal.returns-then-party-eq-OPERATOR
-returns-then-party-eq-OPERATOR c = let a = c.args in
-    record { value = for_operator a.book.now a.party a.matter (sym c.requires.asked_value ∙ c.if-asked-ne0.false) c.if-party-eq-OPERATOR.true; asked_value_2 = λ z. c.if-asked-ne0.false }
+pub returns-in-Operator-default-clause-value : goal.returns-in-Operator-default-clause-value
+returns-in-Operator-default-clause-value c = rw c.in-Operator-default.is-0 (allowed _ _ _ (rw c.in_ok-asked.was at c.requires) (operators_right _ _))
 
-pub returns-then-party-matter : goal.returns-then-party-matter
-returns-then-party-matter c = let a = c.args in
-    record { value = for_another a.book.now a.party a.matter (sym c.requires.asked_value ∙ c.if-asked-ne0.false) c.if-party-eq-OPERATOR.false c.if-party-matter.true; asked_value_2 = λ z. c.if-asked-ne0.false }
+pub returns-in-Shipper-Own-clause-value : goal.returns-in-Shipper-Own-clause-value
+returns-in-Shipper-Own-clause-value c = let m = c.in-Shipper-Own in
+    rw (m.is-0, m.is-1) (allowed _ _ _ (rw c.in_ok-asked.was at c.requires) (own_shipper _ _ _ c.if-id-own.true c.if-is_shipper.ensures))
 
-pub is_shipper-requires : goal.is_shipper-requires
-is_shipper-requires c = sym c.requires.asked_value ∙ c.if-asked-ne0.false
+pub returns-in_default-clause-value : goal.returns-in_default-clause-value
+returns-in_default-clause-value c = let m = c.in-Shipper-Own in
+    rw (m.is-0, m.is-1) (forbidden _ _ _ (rw c.in_ok-asked.was at c.requires) (own_no_shipper _ _ _ c.if-id-own.true c.if-is_shipper.ensures))
 
-pub returns-then-is_shipper : goal.returns-then-is_shipper
-returns-then-is_shipper c = let a = c.args in
-    record { value = for_shipper a.book.now a.party a.matter (sym c.requires.asked_value ∙ c.if-asked-ne0.false) c.if-party-eq-OPERATOR.false c.if-party-matter.false c.is_shipper.ensures c.if-is_shipper.true; asked_value_2 = λ z. c.if-asked-ne0.false }
+pub returns-in_default-2-clause-value : goal.returns-in_default-2-clause-value
+returns-in_default-2-clause-value c = let m = c.in-Shipper-Own in
+    rw (m.is-0, m.is-1) (forbidden _ _ _ (rw c.in_ok-asked.was at c.requires) (anothers _ _ _ c.if-id-own.false))
 
-pub returns : goal.returns
-returns c = let a = c.args in
-    record { value = for_no_shipper a.book.now a.party a.matter (sym c.requires.asked_value ∙ c.if-asked-ne0.false) c.if-party-eq-OPERATOR.false c.if-party-matter.false c.is_shipper.ensures c.if-is_shipper.false; asked_value_2 = λ z. c.if-asked-ne0.false }
+pub returns-in_default-3-clause-value : goal.returns-in_default-3-clause-value
+returns-in_default-3-clause-value c = let m = c.in_default in
+    rw (m.is-0, m.is-1) (forbidden _ _ _ (rw c.in_ok-asked.was at c.requires) (operators_alone _ _))

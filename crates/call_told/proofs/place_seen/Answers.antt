@@ -5,9 +5,9 @@ use Rattle.book_format.proofs.Passed.{length-trades_of}
 use Rattle.book_format.specs.Book.{count_of_trades, trades_of, users_of}
 use Rattle.rules.specs.Book.{no_trade}
 use Rattle.views.specs.Views.{sees_trade}
-use Rattle.call_told.proofs.Seen.{area_in, looked_found, looked_next, none_left, party_in}
+use Rattle.call_told.proofs.Seen.{area_in, looked_found, looked_next, looked_past, none_left, party_in}
 use Rattle.call_told.proofs.place_seen.Goals as goal
-use Rattle.call_told.proofs.place_seen.Goals.{In-loop-i}
+use Rattle.call_told.proofs.place_seen.Goals.{In-loop-i, then-sees+else-left-eq0, else-sees}
 
 -- the trade that is looked at is one of the book
 inside : (c : goal.In-loop-i) → c.loop-i.i < count_of_trades c.args.book.now
@@ -16,9 +16,9 @@ inside c = omega (arith, c.loop-i-test.true, c.trade_count-m.ensures)
 pub trades_offset-at-requires : goal.trades_offset-at-requires
 trades_offset-at-requires c = (c.requires.0.accepted.held.form, c.user_count-n.ensures)
 
-pub count_one-one-requires : goal.count_one-one-requires
-count_one-one-requires c = let b = c.requires.0 in
-    let k = inside (goal.at.count_one-one-requires c).In-loop-i in (
+pub sees-requires : goal.sees-requires
+sees-requires c = let b = c.requires.0 in
+    let k = inside (goal.at.sees-requires c).In-loop-i in (
       record { form = b.accepted.held.form; begin = c.trades_offset-at.ensures; inside = k },
       party_in (λ r. r.seller) seller_known _ _ b.accepted b.placed.of_sellers _ k refl,
       party_in (λ r. r.buyer) buyer_known _ _ b.accepted b.placed.of_buyers _ k refl,
@@ -26,14 +26,21 @@ count_one-one-requires c = let b = c.requires.0 in
       c.requires.1,
     )
 
-pub returns-then-left-one : goal.returns-then-left-one
-returns-then-left-one c = looked_found c.requires.0 _ (inside (goal.at.returns-then-left-one c).In-loop-i) refl refl c.count_one-one.ensures c.loop-i.invariant c.if-left-one.true
+pub returns-then-left-eq0-clause-seen : goal.returns-then-left-eq0-clause-seen
+returns-then-left-eq0-clause-seen c = looked_found c.requires.0 _ (inside (goal.at.returns-then-left-eq0-clause-seen c).In-loop-i) refl refl c.sees.ensures c.loop-i.invariant c.if-sees.true c.if-left-eq0.true
+
+pub returns-then-left-eq0-clause-inside : goal.returns-then-left-eq0-clause-inside
+returns-then-left-eq0-clause-inside c = inside (goal.at.returns-then-left-eq0-clause-inside c).In-loop-i
 
 pub loop-i-preserved : goal.loop-i-preserved
-loop-i-preserved c = looked_next c.requires.0 _ (inside (goal.at.loop-i-preserved c).In-loop-i) refl refl c.count_one-one.ensures c.loop-i.invariant c.if-left-one.false
+loop-i-preserved c = let k = inside (goal.at.loop-i-preserved c).In-loop-i in
+    elim c.if-sees.branch [
+      | then-sees+else-left-eq0 w ↦ rw w.left-is (looked_next c.requires.0 _ k refl refl c.sees.ensures c.loop-i.invariant w.if-sees.true w.if-left-eq0.false)
+      | else-sees w ↦ rw w.left-is (looked_past c.requires.0 _ k refl refl c.sees.ensures c.loop-i.invariant w.if-sees.false)
+    ]
 
-pub returns : goal.returns
-returns c = let s = c.args.book.now in
+pub returns-clause-seen : goal.returns-clause-seen
+returns-clause-seen c = let s = c.args.book.now in
     let count = c.trade_count-m.ensures in
     let most = c.loop-i.invariant.most in
     let n = none_left (sees_trade (users_of s) c.args.id) no_trade (trades_of s) c.loop-i.i c.loop-i.left (omega (arith, c.loop-i-test.false, count, length-trades_of s)) in

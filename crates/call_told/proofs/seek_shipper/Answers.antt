@@ -1,42 +1,28 @@
 -- `seek_shipper` is refused by the entry, refused for a clearing house, or has found a shipper. Assumes nothing.
-use Rattle.base.specs.Basics.{◌≡◌, ◌∙◌, ap, sym, List, ℕ, get_or}
+use Rattle.base.specs.Basics.{◌≡◌, ◌∙◌, ap, sym, get_or}
+use Rattle.refusals.proofs.Numbers.{handed_on, refused-nonzero}
 use Rattle.rules.specs.Book.{User, find, nobody}
 use Rattle.book_format.specs.Book.{book_of, users_of}
 use Rattle.risk_members.proofs.Members.{read_role}
-use Rattle.call_entry.specs.Entered.{Found}
 use Rattle.call_entry.proofs.Calls.{found_at, found_user}
 use Rattle.call_told.proofs.Asked.{seek_found, seek_house, seek_refused}
 use Rattle.call_told.proofs.seek_shipper.Goals as goal
-use Rattle.call_told.proofs.seek_shipper.Goals.{After-seek-entry, After-user_at-user, Else-number-ne0}
+use Rattle.call_told.proofs.seek_shipper.Goals.{After-user_at-user}
 
-abbrev bytes : goal.After-seek-entry → List ℕ
-bytes c = c.args.book.now
-
-abbrev asked : goal.After-seek-entry → ℕ
-asked c = c.args.id
-
-found : (c : goal.Else-number-ne0) → Found (bytes (goal.at.Else-number-ne0 c).After-seek-entry) (asked (goal.at.Else-number-ne0 c).After-seek-entry) c.seek-entry.result.place
-found c = c.seek-entry.ensures.found c.if-number-ne0.false
-
-started : (c : goal.Else-number-ne0) → c.args.opened ≡ 0
-started c = c.seek-entry.ensures.start c.if-number-ne0.false
-
-pub returns-then-number-ne0 : goal.returns-then-number-ne0
-returns-then-number-ne0 c = seek_refused (bytes (goal.at.returns-then-number-ne0 c).After-seek-entry) (asked (goal.at.returns-then-number-ne0 c).After-seek-entry) c.seek-entry.ensures c.if-number-ne0.true
-
--- the role that was read is that of the user of the id
-role : (u : goal.After-user_at-user) → u.user_at-user.result.role ≡ (find (book_of (bytes (goal.at.After-user_at-user u).After-seek-entry)).users (asked (goal.at.After-user_at-user u).After-seek-entry)).party.role
-role u = read_role u.user_at-user.result (get_or (users_of (bytes (goal.at.After-user_at-user u).After-seek-entry)) u.seek-entry.result.place nobody) u.user_at-user.ensures ∙ ap (λ (v : User). v.party.role) (found_at (found (goal.at.After-user_at-user u).Else-number-ne0))
-
-pub returns-then-user-ne0 : goal.returns-then-user-ne0
-returns-then-user-ne0 c = seek_house (bytes (goal.at.returns-then-user-ne0 c).After-seek-entry) (asked (goal.at.returns-then-user-ne0 c).After-seek-entry)
-    (started (goal.at.returns-then-user-ne0 c).Else-number-ne0) (found (goal.at.returns-then-user-ne0 c).Else-number-ne0) (λ h. c.if-user-ne0.true (role (goal.at.returns-then-user-ne0 c).After-user_at-user ∙ h))
-
-pub returns : goal.returns
-returns c = seek_found (bytes (goal.at.returns c).After-seek-entry) (asked (goal.at.returns c).After-seek-entry) (started (goal.at.returns c).Else-number-ne0) (found (goal.at.returns c).Else-number-ne0) (sym (role (goal.at.returns c).After-user_at-user) ∙ c.if-user-ne0.false)
-
-pub seek-entry-requires : goal.seek-entry-requires
-seek-entry-requires c = c.requires
+pub returns-in_err-entry-clause-asked : goal.returns-in_err-entry-clause-asked
+returns-in_err-entry-clause-asked c = rw (handed_on c.from_residual.ensures.1) (seek_refused c.args.book.now c.args.id _ c.in_err-entry.ensures.asked (refused-nonzero c.in_err-entry.field-0.0))
 
 pub user_at-user-requires : goal.user_at-user-requires
-user_at-user-requires c = found_user (found c)
+user_at-user-requires c = found_user c.in_ok-entry.ensures.found.1
+
+-- the role that was read is that of the user of the id
+role : (c : goal.After-user_at-user) → c.user_at-user.result.role ≡ (find (book_of c.args.book.now).users c.args.id).party.role
+role c = read_role c.user_at-user.result (get_or (users_of c.args.book.now) c.in_ok-entry.entry.place nobody) c.user_at-user.ensures ∙ ap (λ (v : User). v.party.role) (found_at c.in_ok-entry.ensures.found.1)
+
+pub returns-then-user-ne0-clause-asked : goal.returns-then-user-ne0-clause-asked
+returns-then-user-ne0-clause-asked c = let f = c.in_ok-entry.ensures.found in
+    rw f.0 (seek_house c.args.book.now c.args.id f.1 (λ h. c.if-user-ne0.true (role (goal.at.returns-then-user-ne0-clause-asked c).After-user_at-user ∙ h)))
+
+pub returns-clause-asked : goal.returns-clause-asked
+returns-clause-asked c = let f = c.in_ok-entry.ensures.found in
+    rw f.0 (seek_found c.args.book.now c.args.id f.1 (sym (role (goal.at.returns-clause-asked c).After-user_at-user) ∙ c.if-user-ne0.false))

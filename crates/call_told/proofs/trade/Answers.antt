@@ -1,68 +1,57 @@
--- `trade` gives the empty part and the number of the entry, or the 20 bytes where the trade of the ordinal stands, or the empty part past the last. Assumes nothing.
-use Rattle.base.specs.Basics.{◌≡◌, ◌∙◌, refl, List, ℕ, ◌+◌, ◌-◌, ◌≤◌, ◌<◌, arith}
-use Rattle.book_format.specs.Book.{count_of_trades}
+-- `trade` is refused by the entry, or gives the 20 bytes where the trade of the ordinal stands, or nothing past the last. Assumes nothing.
+use Rattle.base.specs.Basics.{◌≡◌, ◌∙◌, refl, subst, ◌+◌, ◌-◌, arith}
+use Rattle.std.proofs.Common.{IfOk}
+use Rattle.refusals.proofs.Numbers.{handed_on, refused-nonzero}
 use Rattle.book_format.specs.Questions.{Formed}
+use Rattle.book_questions.specs.Opened.{OpenedParties}
 use Rattle.call_told.proofs.Asked.{found_above}
 use Rattle.call_told.proofs.Seen.{found_number, found_part, found_start, part_refused, shown_none, shown_trade, starts_at, starts_none}
 use Rattle.call_told.proofs.trade.Goals as goal
-use Rattle.call_told.proofs.trade.Goals.{After-seek_shipper-entry, Else-entry-ne0, Else-m-place}
+use Rattle.call_told.proofs.trade.Goals.{In_ok-seek_shipper}
 
-abbrev bytes : goal.After-seek_shipper-entry → List ℕ
-bytes c = c.args.book.now
+pub returns-in_err-seek_shipper-clause-told : goal.returns-in_err-seek_shipper-clause-told
+returns-in_err-seek_shipper-clause-told c = let a = c.args in
+    rw (handed_on c.from_residual.ensures.1) (part_refused _ a.book.now a.id a.ordinal c.in_err-seek_shipper.ensures.asked (refused-nonzero c.in_err-seek_shipper.field-0.0))
 
-opened : (c : goal.Else-entry-ne0) → c.args.opened ≡ 0
-opened c = c.seek_shipper-entry.ensures.start c.if-entry-ne0.false
+opened : (c : goal.In_ok-seek_shipper) → OpenedParties c.args.book.now c.args.sellers.now c.args.buyers.now
+opened c = let a = c.args in
+    subst (λ o. IfOk o (λ limits. OpenedParties a.book.now a.sellers.now a.buyers.now)) c.in_ok-seek_shipper.ensures.found.0 c.requires
 
-form : (c : goal.Else-entry-ne0) → Formed (bytes (goal.at.Else-entry-ne0 c).After-seek_shipper-entry)
-form c = (c.requires (opened c)).book.accepted.held.form
+pub place_seen-requires : goal.place_seen-requires
+place_seen-requires c = ((opened c).book, found_above c.in_ok-seek_shipper.ensures.found.1)
 
-pub returns-then-entry-ne0 : goal.returns-then-entry-ne0
-returns-then-entry-ne0 c = let a = c.args in
-    part_refused a.opened (bytes (goal.at.returns-then-entry-ne0 c).After-seek_shipper-entry) a.id a.ordinal c.seek_shipper-entry.ensures c.if-entry-ne0.true refl refl
-
-pub place_seen-place-requires : goal.place_seen-place-requires
-place_seen-place-requires c = ((c.requires (opened (goal.at.place_seen-place-requires c).Else-entry-ne0)).book, found_above (c.seek_shipper-entry.ensures.found c.if-entry-ne0.false))
-
-pub returns-then-m-place : goal.returns-then-m-place
-returns-then-m-place c = let a = c.args in
-    let past : count_of_trades (bytes (goal.at.returns-then-m-place c).After-seek_shipper-entry) ≤ c.place_seen-place.result = omega (arith, c.if-m-place.true, c.trade_count-m.ensures) in
-    let f = c.seek_shipper-entry.ensures in
-    let z = c.if-entry-ne0.false in
-    let at = starts_none (bytes (goal.at.returns-then-m-place c).After-seek_shipper-entry) a.id a.ordinal c.place_seen-place.result c.place_seen-place.ensures past in
+pub returns-in_default-clause-told : goal.returns-in_default-clause-told
+returns-in_default-clause-told c = let a = c.args in
+    let s = a.book.now in
+    let seen = c.in_default.ensures.seen in
+    let asked = c.in_ok-seek_shipper.ensures.asked in
+    let at = starts_none s a.id a.ordinal _ seen (omega arith) in
     record {
-      asked = found_number a.opened (bytes (goal.at.returns-then-m-place c).After-seek_shipper-entry) a.id a.ordinal f z;
-      shows = λ limits. shown_none (bytes (goal.at.returns-then-m-place c).After-seek_shipper-entry) a.id a.ordinal c.place_seen-place.result c.place_seen-place.ensures past ∙ found_part a.opened (bytes (goal.at.returns-then-m-place c).After-seek_shipper-entry) a.id a.ordinal f z limits;
+      asked = found_number _ s a.id a.ordinal asked refl;
+      shows = λ limits. shown_none s a.id a.ordinal _ seen (omega arith) ∙ found_part _ s a.id a.ordinal asked refl limits;
       block = refl;
-      offset = omega (arith, at, found_start a.opened (bytes (goal.at.returns-then-m-place c).After-seek_shipper-entry) a.id a.ordinal f z);
+      offset = omega (arith, at, found_start _ s a.id a.ordinal asked refl);
     }
 
--- the trade stands in the book
-inside : (c : goal.Else-m-place) → c.place_seen-place.result < count_of_trades (bytes (goal.at.Else-m-place c).After-seek_shipper-entry)
-inside c = omega (arith, c.if-m-place.false, c.trade_count-m.ensures)
+form : (c : goal.In_ok-seek_shipper) → Formed c.args.book.now
+form c = (opened c).book.accepted.held.form
 
-pub returns : goal.returns
-returns c = let a = c.args in
-    let i = c.place_seen-place.result in
+pub trade_offset-a-requires : goal.trade_offset-a-requires
+trade_offset-a-requires c = (form (goal.at.trade_offset-a-requires c).In_ok-seek_shipper, c.in-Some.ensures.inside)
+
+pub returns-clause-told : goal.returns-clause-told
+returns-clause-told c = let a = c.args in
+    let s = a.book.now in
     let at = c.trade_offset-a.result in
     let k : at + 20 - at ≡ 20 = omega arith in
     let begins = c.trade_offset-a.ensures.0 in
-    let f = c.seek_shipper-entry.ensures in
-    let z = c.if-entry-ne0.false in
-    let in-book = inside (goal.at.returns c).Else-m-place in
-    let from = starts_at (bytes (goal.at.returns c).After-seek_shipper-entry) a.id a.ordinal i c.place_seen-place.ensures in-book in
+    let asked = c.in_ok-seek_shipper.ensures.asked in
+    let seen = c.in-Some.ensures.seen in
+    let inside = c.in-Some.ensures.inside in
+    let from = starts_at s a.id a.ordinal c.in-Some.place seen inside in
     record {
-      asked = found_number a.opened (bytes (goal.at.returns c).After-seek_shipper-entry) a.id a.ordinal f z;
-      shows = λ limits.
-          rw (k, begins) (shown_trade (bytes (goal.at.returns c).After-seek_shipper-entry) a.id a.ordinal i c.place_seen-place.ensures in-book ∙ found_part a.opened (bytes (goal.at.returns c).After-seek_shipper-entry) a.id a.ordinal f z limits);
+      asked = found_number _ s a.id a.ordinal asked refl;
+      shows = λ limits. rw (k, begins) (shown_trade s a.id a.ordinal c.in-Some.place seen inside ∙ found_part _ s a.id a.ordinal asked refl limits);
       block = refl;
-      offset = omega (arith, begins, from, found_start a.opened (bytes (goal.at.returns c).After-seek_shipper-entry) a.id a.ordinal f z);
+      offset = omega (arith, begins, from, found_start _ s a.id a.ordinal asked refl);
     }
-
-pub seek_shipper-entry-requires : goal.seek_shipper-entry-requires
-seek_shipper-entry-requires c z = (c.requires z).passes
-
-pub trade_count-m-requires : goal.trade_count-m-requires
-trade_count-m-requires c = omega (arith, (form c).head)
-
-pub trade_offset-a-requires : goal.trade_offset-a-requires
-trade_offset-a-requires c = (form (goal.at.trade_offset-a-requires c).Else-entry-ne0, inside c)

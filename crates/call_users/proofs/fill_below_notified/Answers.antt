@@ -13,6 +13,6 @@ managed h = h.has_managers.ensures ∙ ap managers_in h.version.ensures
 pub bear_managed-requires : goal.bear_managed-requires
 bear_managed-requires c = record { book_in = (c.requires.0, sym (managed (goal.at.bear_managed-requires c).After-has_managers) ∙ c.if-has_managers.true); bearing_sellers_len = (refl, refl) }
 
-pub fill_below_notified-requires-2 : goal.fill_below_notified-requires-2
-fill_below_notified-requires-2 c = let b = c.requires.0 in
-    record { borne_in = (plain_in c.args.book.now b.accepted (sym (managed (goal.at.fill_below_notified-requires-2 c).After-has_managers) ∙ c.if-has_managers.false) b, c.user_count-n.ensures, c.trade_count-m.ensures); below_notified_value = c.requires.1 }
+pub fill_below_notified-requires-else-has_managers : goal.fill_below_notified-requires-else-has_managers
+fill_below_notified-requires-else-has_managers c = let b = c.requires.0 in
+    record { borne_in = (plain_in c.args.book.now b.accepted (sym (managed (goal.at.fill_below_notified-requires-else-has_managers c).After-has_managers) ∙ c.if-has_managers.false) b, c.user_count-n.ensures, c.trade_count-m.ensures); below_notified_value = c.requires.1 }

@@ -1,31 +1,28 @@
 -- `levels` is refused by the opening questions, or gives the rows of all users. Assumes nothing.
-use Rattle.base.specs.Basics.{refl, arith}
+use Rattle.base.specs.Basics.{refl, arith, subst}
+use Rattle.std.proofs.Common.{IfOk}
+use Rattle.refusals.proofs.Numbers.{handed_on, refused-nonzero}
 use Rattle.book_questions.specs.Opened.{Opened}
 use Rattle.units.specs.Limits.{as_limits}
-use Rattle.call_answers.specs.Levels.{levels_told}
 use Rattle.call_users.proofs.User.{levels_found, levels_refused}
 use Rattle.call_users.proofs.levels.Goals as goal
-use Rattle.call_users.proofs.levels.Goals.{Else-number-ne0}
+use Rattle.call_users.proofs.levels.Goals.{In_ok-limits}
+
+pub returns-in_err-limits : goal.returns-in_err-limits
+returns-in_err-limits c = rw (c.in_err-limits.was, handed_on c.from_residual.ensures.1) (levels_refused _ c.args.book.now _ (refused-nonzero c.in_err-limits.field-0.0))
 
 -- what the opening questions give
-told : (e : goal.Else-number-ne0) → let a = e.args in Opened (as_limits a.limits) a.book.now a.sellers.now a.buyers.now a.sums.now
-told e = e.requires e.if-number-ne0.false
-
-pub returns-then-number-ne0 : goal.returns-then-number-ne0
-unfolding levels_told
-returns-then-number-ne0 c = let a = c.args in
-    levels_refused (as_limits a.limits) a.book.now a.number c.if-number-ne0.true c.no_users-users.ensures
+told : (c : goal.In_ok-limits) → let a = c.args in Opened (as_limits c.in_ok-limits.limits) a.book.now a.sellers.now a.buyers.now a.sums.now
+told c = let a = c.args in subst (λ o. IfOk o (λ limits. Opened (as_limits limits) a.book.now a.sellers.now a.buyers.now a.sums.now)) c.in_ok-limits.was c.requires
 
 pub user_count-n-requires : goal.user_count-n-requires
 user_count-n-requires c = omega (arith, (told c).parties.book.accepted.held.form.head)
 
 pub fill_below_notified-requires : goal.fill_below_notified-requires
-fill_below_notified-requires c = ((told (goal.at.fill_below_notified-requires c).Else-number-ne0).parties.book, refl)
+fill_below_notified-requires c = ((told (goal.at.fill_below_notified-requires c).In_ok-limits).parties.book, refl)
 
-pub rows_of-users-requires : goal.rows_of-users-requires
-rows_of-users-requires c = ((told (goal.at.rows_of-users-requires c).Else-number-ne0).summed, c.user_count-n.ensures, c.fill_below_notified.ensures)
+pub rows_of-requires : goal.rows_of-requires
+rows_of-requires c = ((told (goal.at.rows_of-requires c).In_ok-limits).summed, c.user_count-n.ensures, c.fill_below_notified.ensures)
 
 pub returns : goal.returns
-unfolding levels_told
-returns c = let a = c.args in
-    levels_found (as_limits a.limits) a.book.now c.if-number-ne0.false c.rows_of-users.ensures
+returns c = rw c.in_ok-limits.was (levels_found _ c.args.book.now c.rows_of.ensures)

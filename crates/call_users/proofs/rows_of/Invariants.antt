@@ -1,4 +1,3 @@
-use Rattle.base.specs.Basics.{◌-◌}
 use Rattle.book_format.specs.Book.{book_of}
 use Rattle.units.specs.Limits.{as_limits}
 use Rattle.call_users.proofs.Filled.{Filled}
@@ -6,6 +5,3 @@ use Rattle.call_users.proofs.rows_of.Given as goal
 
 abbrev pub invariant-loop-i : goal.invariant-loop-i
 invariant-loop-i l = Filled (as_limits l.limits) (book_of l.book) l.rows l.i
-
-abbrev pub decreases-loop-i : goal.decreases-loop-i
-decreases-loop-i l = l.n - l.i

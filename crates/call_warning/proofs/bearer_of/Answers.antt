@@ -1,5 +1,5 @@
 -- `bearer_of`: by the version. Assumes nothing.
-use Rattle.base.specs.Basics.{sym, ap, ◌∙◌, arith, not-true, not-false}
+use Rattle.base.specs.Basics.{sym, ap, ◌∙◌, arith}
 use Rattle.book_format.specs.Places.{UserIn}
 use Rattle.book_records.specs.Trade.{as_trade}
 use Rattle.laws.proofs.Settle.{area-lt}
@@ -11,7 +11,7 @@ use Rattle.call_warning.proofs.bearer_of.Goals.{After-place_of-place}
 
 pub returns-then-not-has_managers : goal.returns-then-not-has_managers
 unfolding as_trade
-returns-then-not-has_managers c = seller_itself c.args.book.now c.requires.0 (as_trade c.args.t) c.requires.1 (sym (c.has_managers.ensures ∙ ap managers_in c.version.ensures) ∙ not-true c.has_managers.result c.if-not-has_managers.true-raw)
+returns-then-not-has_managers c = seller_itself c.args.book.now c.requires.0 (as_trade c.args.t) c.requires.1 (sym (c.has_managers.ensures ∙ ap managers_in c.version.ensures) ∙ c.if-not-has_managers.true)
 
 -- the seller at its place
 there : (c : goal.After-place_of-place) → UserIn c.args.book.now c.place_of-place.result
@@ -20,7 +20,7 @@ there c = record { form = c.requires.0.held.form; inside = seller-place c.args.b
 
 pub bearer_of-requires : goal.bearer_of-requires
 unfolding as_trade
-bearer_of-requires c = (there (goal.at.bearer_of-requires c).After-place_of-place, sym (c.has_managers.ensures ∙ ap managers_in c.version.ensures) ∙ not-false c.has_managers.result c.if-not-has_managers.false-raw, area-lt (users_of c.args.book.now) (as_trade c.args.t) c.requires.1)
+bearer_of-requires c = (there (goal.at.bearer_of-requires c).After-place_of-place, sym (c.has_managers.ensures ∙ ap managers_in c.version.ensures) ∙ c.if-not-has_managers.false, area-lt (users_of c.args.book.now) (as_trade c.args.t) c.requires.1)
 
 pub returns : goal.returns
 unfolding as_trade

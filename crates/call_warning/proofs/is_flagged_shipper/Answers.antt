@@ -20,7 +20,7 @@ role u = read_role u.user_at-seller.result (get_or (users_of u.args.book.now) u.
 
 pub returns-then-seller-ne0 : goal.returns-then-seller-ne0
 returns-then-seller-ne0 c = let b = book_of c.args.book.now in
-    shipper_no (as_limits c.args.limits) b (find b.users c.args.id) (λ h. c.if-seller-ne0.true (role (goal.at.returns-then-seller-ne0 c).After-user_at-seller ∙ h))
+    shipper_no (as_limits c.args.day.limits) b (find b.users c.args.id) (λ h. c.if-seller-ne0.true (role (goal.at.returns-then-seller-ne0 c).After-user_at-seller ∙ h))
 
 pub positions_of-position-requires : goal.positions_of-position-requires
 positions_of-position-requires c = (c.requires.priced.0.accepted, (found (goal.at.positions_of-position-requires c).After-place_of-place).known, c.user_at-seller.ensures)
@@ -32,11 +32,11 @@ flagged-requires c = let f = found (goal.at.flagged-requires c).After-place_of-p
 pub returns : goal.returns
 returns c = let bytes = c.args.book.now in
     let b = book_of bytes in
-    let l = as_limits c.args.limits in
+    let l = as_limits c.args.day.limits in
     let f = found (goal.at.returns c).After-place_of-place in
     let v = get_or (users_of bytes) c.place_of-place.result nobody in
     c.flagged.ensures v (read_blocked c.user_at-seller.result v c.user_at-seller.ensures)
-    ∙ flag_at bytes f.passes f.known l c.args.prices (sym c.requires.priced.0.same) c.positions_of-position.result c.positions_of-position.ensures
+    ∙ flag_at bytes f.passes f.known l c.args.day.prices (sym c.requires.priced.0.same) c.positions_of-position.result c.positions_of-position.ensures
     ∙ ap (flagged l b) (found_at f)
     ∙ shipper_yes l b (find b.users c.args.id) (sym (role (goal.at.returns c).After-user_at-seller) ∙ c.if-seller-ne0.false)
 
