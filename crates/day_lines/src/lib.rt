@@ -54,8 +54,8 @@ pub fn line_at(
     let printed = printed_level(user, level);
     Line {
         id: user.id,
-        state: state,
+        state,
         level: printed,
-        position: position,
+        position,
     }
 }

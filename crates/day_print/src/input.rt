@@ -12,6 +12,7 @@ pub fn read_full(input: &mut impl Read, bytes: &mut [u8]) -> io::Result<usize>
     ensures { IfOk result (λ n. n ≤ length bytes.new) }
 {
     let mut done = 0;
+    // As many reads as it takes: how much one gives is up to the input.
     while done < bytes.len() {
         let n = input.read(&mut bytes[done..])?;
         if n == 0 {

@@ -4,7 +4,10 @@
 
 mod input;
 
-ghost use Rattle.std.specs.Prelude.{◌≡◌};
+ghost use Rattle.std.specs.Prelude.{◌≡◌, IfOk, length, replicate};
+ghost use Rattle.refusals.specs.Refusal.{number_in};
+ghost use Rattle.book_questions.specs.Opened.{Opened};
+ghost use Rattle.store.specs.Asked.{figures_in};
 ghost use Rattle.rules.specs.Calls.{call_after};
 ghost use Rattle.rules.specs.Levels.{today};
 ghost use Rattle.book_format.specs.After.{CalledAfter};
@@ -16,10 +19,12 @@ ghost use Rattle.units.specs.Prices.{as_prices};
 ghost use Rattle.units.specs.Limits.{as_limits};
 ghost use Rattle.day_print.specs.Lines.{LinesAsked};
 
-use call_answers::RunAnswer;
+use call_answers::Run;
+use cut_worth::Totals;
 use day_lines::Line;
 pub use input::{read_file, read_full};
-use risk_user::{Day, State};
+use refusals::Refusal;
+use risk_user::Day;
 use std::io;
 use std::io::Write;
 use units::{Limits, Net};
@@ -29,43 +34,21 @@ pub fn number(out: &mut impl Write, n: u64) -> io::Result<()> {
     write!(out, " {n}")
 }
 
-// A space and an energy, with `-` before it where it is below 0.
-fn net(out: &mut impl Write, energy: Net) -> io::Result<()> {
-    let short = energy.short();
-    if 0 < short.0 {
-        return write!(out, " -{}", short.0);
-    }
-    let long = energy.long();
-    number(out, long.0)
-}
-
-// The energies of the three areas.
+// The energies of the three areas, a space before each.
 pub fn nets(out: &mut impl Write, energies: [Net; 3]) -> io::Result<()> {
-    net(out, energies[0])?;
-    net(out, energies[1])?;
-    net(out, energies[2])
-}
-
-// A space and the word of a state.
-fn word(out: &mut impl Write, state: State) -> io::Result<()> {
-    match state {
-        State::Clear => out.write_all(b" clear"),
-        State::Short => out.write_all(b" short"),
-        State::Call => out.write_all(b" call"),
-        State::Quiet => out.write_all(b" quiet"),
+    for energy in &energies {
+        write!(out, " {energy}")?;
     }
+    Ok(())
 }
 
 // A line of a printed day.
 fn line(out: &mut impl Write, line: Line) -> io::Result<()> {
     let id = line.id;
     let state = line.state;
-    let level = line.level;
-    let position = line.position;
-    write!(out, "{id}")?;
-    word(out, state)?;
-    number(out, level.0)?;
-    nets(out, position)?;
+    let level = line.level.0;
+    write!(out, "{id} {state} {level}")?;
+    nets(out, line.position)?;
     out.write_all(b"\n")
 }
 
@@ -82,11 +65,9 @@ fn lines_of(
 ) -> io::Result<()>
     requires { LinesAsked (as_limits day.limits) (as_prices day.prices) book.now n sums.now positions.now below_notified.now }
 {
-    let mut i = 0;
-    while i < n {
+    for i in 0..n {
         let told = day_lines::line_at(book, sums, positions, i, below_notified[i], day);
         line(out, told)?;
-        i += 1;
     }
     Ok(())
 }
@@ -98,7 +79,8 @@ fn lines(out: &mut impl Write, book: &[u8]) -> io::Result<()>
     let mut sellers = [0u8; 256];
     let mut buyers = [0u8; 256];
     let mut sums = [0u32; 768];
-    book_questions::ask(book, &mut sellers, &mut buyers, &mut sums);
+    // An accepted book passes them again.
+    let _ = book_questions::ask(book, &mut sellers, &mut buyers, &mut sums);
     let mut bearing_sellers = [0u8; 256];
     let mut bearing_buyers = [0u8; 256];
     call_parties::bear(
@@ -129,38 +111,40 @@ fn lines(out: &mut impl Write, book: &[u8]) -> io::Result<()>
     lines_of(out, book, n, &sums, &positions, &below_notified, day)
 }
 
-// The line of a refused book.
-fn refusal(out: &mut impl Write, question: u32) -> io::Result<()> {
-    writeln!(out, "refused {question}")
-}
-
 // The line of a run: its reductions, MWh and worth.
-fn totals(out: &mut impl Write, answer: RunAnswer) -> io::Result<()> {
-    let mwh = answer.mwh;
-    let worth = answer.worth;
+fn totals(out: &mut impl Write, totals: Totals) -> io::Result<()> {
     out.write_all(b"run")?;
-    number(out, answer.reductions)?;
-    number(out, mwh.0)?;
-    number(out, worth.0)?;
+    number(out, totals.reductions)?;
+    number(out, totals.mwh.0)?;
+    number(out, totals.worth.0)?;
     out.write_all(b"\n")
 }
 
+// Today's figures, after the questions of a book, which tell the places of its trades' parties and the sums of its users.
+fn open(
+    book: &[u8],
+    sellers: &mut [u8],
+    buyers: &mut [u8],
+    sums: &mut [u32; 768],
+) -> Result<Limits, Refusal>
+    requires { (length sellers.old ≡ 256) × (length buyers.old ≡ 256) × (sums.old ≡ replicate 768 0) }
+    ensures asked { number_in result ≡ book_number book.now }
+    ensures figures { figures_in result ≡ today }
+    ensures opened { IfOk result (λ limits. Opened (as_limits limits) book.now sellers.new buyers.new sums.new) }
+{
+    book_questions::ask(book, sellers, buyers, sums)?;
+    Ok(Limits::today())
+}
+
 // Runs a book in bytes, with today's figures.
-fn run(book: &mut [u8]) -> RunAnswer
+fn run(book: &mut [u8]) -> Result<Run, Refusal>
     ensures { CalledAfter (book_number book.old) today book.old run_call (answer_of result) book.new }
 {
     let mut sellers = [0u8; 256];
     let mut buyers = [0u8; 256];
     let mut sums = [0u32; 768];
-    let asked = book_questions::ask(book, &mut sellers, &mut buyers, &mut sums);
-    call_run::run(
-        book,
-        asked.number,
-        Limits::today(),
-        &sellers,
-        &buyers,
-        &mut sums,
-    )
+    let opened = open(book, &mut sellers, &mut buyers, &mut sums);
+    call_run::run(book, opened, &sellers, &buyers, &mut sums)
 }
 
 // Runs a book in bytes and prints its day: the run, and the line of every user in the book that the run leaves; or the number of the
@@ -168,11 +152,11 @@ fn run(book: &mut [u8]) -> RunAnswer
 pub fn day(out: &mut impl Write, book: &mut [u8]) -> io::Result<()>
     ensures { book.new ≡ (call_after in_bytes (book_number book.old) today book.old run_call).book }
 {
-    let answer = run(book);
-    let question = answer.number;
-    if question != 0 {
-        return refusal(out, question);
+    match run(book) {
+        Ok(ran) => {
+            totals(out, ran.totals)?;
+            lines(out, book)
+        }
+        Err(refusal) => writeln!(out, "{refusal}"),
     }
-    totals(out, answer)?;
-    lines(out, book)
 }

@@ -1,5 +1,5 @@
 -- A record shown after the opening questions is the part that its request hands back: by the number of both, the record or the empty part. Assumes nothing.
-use Rattle.base.specs.Basics.{◌≡◌, ◌∙◌, ap, refl, sym, List, [], ℕ, ◌+◌, suc, zero}
+use Rattle.base.specs.Basics.{◌≡◌, ◌∙◌, ap, refl, sym, Bool, false, true, List, [], ℕ, ◌+◌, suc, zero}
 use Rattle.rules.specs.Levels.{Limits}
 use Rattle.rules.specs.Queries.{Reply, a_record, about_query, found, only_number, reply_after, shown_record}
 use Rattle.rules.specs.Questions.{after, first_of, refusal}
@@ -8,6 +8,7 @@ use Rattle.requests.specs.Carried.{Admitted, part_at, part_shown}
 use Rattle.requests.specs.Request.{Setting}
 use Rattle.rights.proofs.Replied.{replied_by, told_by_lem}
 use Rattle.rights.specs.Trades.{Told, TradeHanded, id_of, trade_of}
+use Rattle.call_level.specs.Times.{query_of}
 use Rattle.call_told.specs.Told.{TradeAfter}
 use Rattle.rights.specs.Acting.{HandedBy, entering_number}
 use Rattle.rights.specs.Party.{Party, matter_of, own}
@@ -53,3 +54,10 @@ trade_handed actor g s id ordinal {limits = limits} d t =
       block = t.block;
       offset = t.offset;
     }
+
+-- a level is the user's own matter at both times of the day
+pub of_level : (actor : Party) (afternoon : Bool) (id : ℕ) {g : Setting} {s : List ℕ} {number : ℕ} {limits : Limits} → Admitted (entering_number actor (own id) s) g s number limits
+    → Admitted (entering_number actor (matter_of (query_of afternoon id)) s) g s number limits
+unfolding matter_of
+of_level actor true id d = d
+of_level actor false id d = d

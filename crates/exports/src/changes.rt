@@ -15,7 +15,9 @@ ghost use Rattle.call_run.specs.Call.{run_call};
 ghost use Rattle.exports_answers.specs.Numbers.{call_numbers, reduction_numbers, run_numbers, withdrawal_numbers};
 ghost use Rattle.exports.specs.Answers.{log_by, store_by, Answered};
 
-use crate::WRONG_LENGTH;
+use crate::{WRONG_LENGTH, lent_store};
+use call_rights::Party;
+use refusals::number_of;
 
 // How many numbers an answer has.
 const CALL_NUMBERS: usize = 2;
@@ -43,17 +45,9 @@ pub extern "C" fn daybook_raw_posting(
 ) -> u32
     ensures { LoggedBy (party_of party) (act_of (store_by with_store store.now) (log_by with_log log.old) (called (posting_of id area amount))) book.old (only result) book.new log.old log.new }
 {
-    daybook::posting(
-        book,
-        party,
-        with_store != 0,
-        store,
-        with_log != 0,
-        log,
-        id,
-        area,
-        amount,
-    )
+    let store = lent_store(with_store, store);
+    let party = Party::from(party);
+    number_of(daybook::posting(book, party, store, with_log != 0, log, id, area, amount))
 }
 
 // Posts a list of corrections, given as columns, and stores the number of each line in its place. Places of another count than the lines
@@ -73,10 +67,11 @@ pub extern "C" fn daybook_raw_list(
 ) -> u32
     ensures { PostedBy (party_of party) (store_by with_store store.now) (log_by with_log log.old) ids.now areas.now amounts.now places.old book.old result book.new places.new log.old log.new }
 {
-    daybook::list(
+    let store = lent_store(with_store, store);
+    let party = Party::from(party);
+    number_of(daybook::list(
         book,
         party,
-        with_store != 0,
         store,
         with_log != 0,
         log,
@@ -84,7 +79,7 @@ pub extern "C" fn daybook_raw_list(
         areas,
         amounts,
         places,
-    )
+    ))
 }
 
 // Raises a user's blocked guarantee to its level at one time of the day: 2 numbers, the level and what was added.
@@ -104,16 +99,9 @@ fn call(
     if answer.len() != CALL_NUMBERS {
         return WRONG_LENGTH;
     }
-    let call = daybook::call(
-        book,
-        party,
-        with_store != 0,
-        store,
-        with_log != 0,
-        log,
-        id,
-        afternoon,
-    );
+    let store = lent_store(with_store, store);
+    let party = Party::from(party);
+    let call = daybook::call(book, party, store, with_log != 0, log, id, afternoon);
     exports_answers::store_call(answer, call)
 }
 
@@ -173,7 +161,9 @@ pub extern "C" fn daybook_raw_reduction(
     if answer.len() != REDUCTION_NUMBERS {
         return WRONG_LENGTH;
     }
-    let reduction = daybook::reduction(book, party, with_store != 0, store, with_log != 0, log, id);
+    let store = lent_store(with_store, store);
+    let party = Party::from(party);
+    let reduction = daybook::reduction(book, party, store, with_log != 0, log, id);
     exports_answers::store_reduction(answer, reduction)
 }
 
@@ -194,7 +184,8 @@ pub extern "C" fn daybook_raw_run(
     if answer.len() != RUN_NUMBERS {
         return WRONG_LENGTH;
     }
-    let run = daybook::run(book, party, with_store != 0, store, with_log != 0, log);
+    let store = lent_store(with_store, store);
+    let run = daybook::run(book, Party::from(party), store, with_log != 0, log);
     exports_answers::store_run(answer, run)
 }
 
@@ -206,7 +197,7 @@ pub extern "C" fn daybook_raw_start_log(log: &mut [u8], book: &[u8]) -> u32
     ensures value { result ≡ start_number log.old book.now }
     ensures log_after { log.new ≡ started log.old book.now }
 {
-    daybook::start_log(log, book)
+    number_of(daybook::start_log(log, book))
 }
 
 // Withdraws the last reduction that a log has noted: 2 numbers, its MWh and their worth.
@@ -224,6 +215,7 @@ pub extern "C" fn daybook_raw_withdrawal(
     if answer.len() != WITHDRAWAL_NUMBERS {
         return WRONG_LENGTH;
     }
-    let withdrawal = daybook::withdrawal(book, party, with_store != 0, store, log);
+    let store = lent_store(with_store, store);
+    let withdrawal = daybook::withdrawal(book, Party::from(party), store, log);
     exports_answers::store_withdrawal(answer, withdrawal)
 }

@@ -5,7 +5,11 @@
 // change a book stand in changes.rt, a user's flag and the trades that it may see in told.rt.
 #![tactic(auto)]
 
-ghost use Rattle.std.specs.Prelude.{◌≡◌};
+ghost use Rattle.std.specs.Prelude.{◌≡◌, ◌≤◌, length};
+ghost use Rattle.refusals.specs.Refusal.{number_in};
+ghost use Rattle.store.specs.Asked.{lent};
+ghost use Rattle.call_show.specs.Shown.{bytes_of};
+ghost use Rattle.book_image.specs.Image.{padded};
 ghost use Rattle.rules.specs.Queries.{morning_level_of, afternoon_level_of};
 ghost use Rattle.requests.specs.Request.{setting_of};
 ghost use Rattle.rights.specs.Party.{party_of};
@@ -20,6 +24,8 @@ ghost use Rattle.exports_answers.specs.Numbers.{level_numbers, warning_numbers};
 ghost use Rattle.exports.specs.Answers.{is_yes, store_by, Replied, Copied};
 ghost use Rattle.exports.specs.Answers.{ReadInto, WrittenFrom, ReturnedInto, SpreadInto, CancelledInto, LevelsInto};
 
+use call_rights::Party;
+use refusals::{Refusal, number_of};
 use shrinkage::Kwh;
 
 pub mod changes;
@@ -52,6 +58,13 @@ const RETURN_NUMBERS: usize = 131;
 
 const SHRINKAGE_DAYS: usize = 30;
 
+// The store that is lent with a flag, none where the flag is 0.
+fn lent_store(with_store: u32, store: &[u8]) -> Option<&[u8]>
+    ensures { lent result ≡ store_by with_store store.now }
+{
+    if with_store != 0 { Some(store) } else { None }
+}
+
 // ---- the functions of the interface
 
 // The number of the interface, as the header has it in DAYBOOK_INTERFACE.
@@ -70,7 +83,7 @@ pub extern "C" fn daybook_raw_read(book: &[u8], party: u64, image: &mut [u8]) ->
     if image.len() != IMAGE_SIZE {
         return WRONG_LENGTH;
     }
-    call_read::read_image(book, party, image)
+    number_of(call_read::read_image(book, Party::from(party), image))
 }
 
 // Writes the book whose fields an image of 9,512 bytes has.
@@ -81,7 +94,25 @@ pub extern "C" fn daybook_raw_write(image: &[u8], out: &mut [u8]) -> u32
     if image.len() != IMAGE_SIZE {
         return WRONG_LENGTH;
     }
-    book_image::write(image, out)
+    number_of(book_image::write(image, out))
+}
+
+// Copies the bytes of a shown record to the front of a part, 0 behind them and where the call is refused, and gives its number.
+fn copy_part(shown: Result<&[u8], Refusal>, part: &mut [u8]) -> u32
+    requires { length (bytes_of shown) ≤ length «part».old }
+    ensures number { result ≡ number_in shown.entry }
+    ensures bytes { «part».new ≡ padded (length «part».old) (bytes_of shown.entry) }
+{
+    match shown {
+        Ok(bytes) => {
+            book_image::fill(part, bytes);
+            0
+        }
+        Err(refusal) => {
+            book_image::fill(part, b"");
+            refusal.number()
+        }
+    }
 }
 
 // Copies the bytes of a user's record to a part of 68; behind the 56 of versions 1 and 2 it is 0.
@@ -99,10 +130,8 @@ pub extern "C" fn daybook_raw_show(
     if record.len() != RECORD_SIZE {
         return WRONG_LENGTH;
     }
-    let mut number = 0;
-    let part = daybook::show(book, party, with_store != 0, store, id, &mut number);
-    book_image::fill(record, part);
-    number
+    let store = lent_store(with_store, store);
+    copy_part(daybook::show(book, Party::from(party), store, id), record)
 }
 
 // The same of the picked one of two books: the morning's where `afternoon_picked` is 0, else the afternoon's.
@@ -122,19 +151,10 @@ pub extern "C" fn daybook_raw_show_picked<'a>(
     if record.len() != RECORD_SIZE {
         return WRONG_LENGTH;
     }
-    let mut number = 0;
-    let part = daybook::show_picked(
-        morning,
-        afternoon,
-        party,
-        with_store != 0,
-        store,
-        afternoon_picked != 0,
-        id,
-        &mut number,
-    );
-    book_image::fill(record, part);
-    number
+    let store = lent_store(with_store, store);
+    let picked = afternoon_picked != 0;
+    let shown = daybook::show_picked(morning, afternoon, Party::from(party), store, picked, id);
+    copy_part(shown, record)
 }
 
 // The level of a user at one time of the day: 1 number.
@@ -152,8 +172,9 @@ fn level(
     if answer.len() != LEVEL_NUMBERS {
         return WRONG_LENGTH;
     }
-    let reply = daybook::level(book, party, with_store != 0, store, id, afternoon);
-    exports_answers::store_level(answer, reply)
+    let store = lent_store(with_store, store);
+    let level = daybook::level(book, Party::from(party), store, id, afternoon);
+    exports_answers::store_level(answer, level)
 }
 
 // The morning level of a user: 1 number.
@@ -201,7 +222,8 @@ pub extern "C" fn daybook_raw_levels(
     if answer.len() != ALL_LEVELS_NUMBERS {
         return WRONG_LENGTH;
     }
-    let levels = daybook::levels(book, party, with_store != 0, store);
+    let store = lent_store(with_store, store);
+    let levels = daybook::levels(book, Party::from(party), store);
     exports_users::store_levels(answer, levels)
 }
 
@@ -220,8 +242,9 @@ pub extern "C" fn daybook_raw_warning(
     if answer.len() != WARNING_NUMBERS {
         return WRONG_LENGTH;
     }
-    let reply = daybook::warning(book, party, with_store != 0, store, id);
-    exports_answers::store_warning(answer, reply)
+    let store = lent_store(with_store, store);
+    let warned = daybook::warning(book, Party::from(party), store, id);
+    exports_answers::store_warning(answer, warned)
 }
 
 // Finds whole trades to cancel for a user's target: 256 marks by trade place, and 3 numbers, the excess, the tries made, and 1 where the
@@ -245,7 +268,8 @@ pub extern "C" fn daybook_raw_cancellation(
     if answer.len() != CANCELLATION_NUMBERS {
         return WRONG_LENGTH;
     }
-    let cancellation = daybook::cancellation(book, party, with_store != 0, store, id, tries);
+    let store = lent_store(with_store, store);
+    let cancellation = daybook::cancellation(book, Party::from(party), store, id, tries);
     exports_cancellation::store_cancellation(marks, answer, cancellation)
 }
 
@@ -256,7 +280,7 @@ pub extern "C" fn daybook_raw_cancellation(
 pub extern "C" fn daybook_raw_convert(book: &[u8], party: u64, version: u32, out: &mut [u8]) -> u32
     ensures { Wrote (conversion_by (party_of party) version book.now out.old) result out.new }
 {
-    daybook::convert(book, party, version, out)
+    number_of(daybook::convert(book, Party::from(party), version, out))
 }
 
 // Writes a book field by field to the front of an output.
@@ -264,7 +288,7 @@ pub extern "C" fn daybook_raw_convert(book: &[u8], party: u64, version: u32, out
 pub extern "C" fn daybook_raw_form(book: &[u8], party: u64, out: &mut [u8]) -> u32
     ensures { Wrote (stored_by (party_of party) book.now out.old) result out.new }
 {
-    daybook::form(book, party, out)
+    number_of(daybook::form(book, Party::from(party), out))
 }
 
 // Writes the book of such a form to the front of an output.
@@ -272,7 +296,7 @@ pub extern "C" fn daybook_raw_form(book: &[u8], party: u64, out: &mut [u8]) -> u
 pub extern "C" fn daybook_raw_restore(form: &[u8], out: &mut [u8]) -> u32
     ensures { Wrote (restored form.now out.old) result out.new }
 {
-    daybook::restore(form, out)
+    number_of(daybook::restore(form, out))
 }
 
 // ---- the return of shrinkage, without a book

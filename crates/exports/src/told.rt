@@ -6,7 +6,8 @@ ghost use Rattle.rights.specs.Trades.{count_of, flag_of};
 ghost use Rattle.exports_answers.specs.Numbers.{count_numbers, flag_numbers};
 ghost use Rattle.exports.specs.Answers.{store_by, ToldInto, TradeInto};
 
-use crate::WRONG_LENGTH;
+use crate::{WRONG_LENGTH, lent_store};
+use call_rights::Party;
 
 // How many numbers an answer has, and the bytes of a trade.
 const FLAG_NUMBERS: usize = 1;
@@ -32,8 +33,9 @@ pub extern "C" fn daybook_raw_flag(
     if answer.len() != FLAG_NUMBERS {
         return WRONG_LENGTH;
     }
-    let reply = daybook::flag(book, party, with_store != 0, store, id);
-    exports_answers::store_flag(answer, reply)
+    let store = lent_store(with_store, store);
+    let flagged = daybook::flag(book, Party::from(party), store, id);
+    exports_answers::store_flag(answer, flagged)
 }
 
 // How many trades a user may see: 1 number.
@@ -51,8 +53,9 @@ pub extern "C" fn daybook_raw_trade_count(
     if answer.len() != COUNT_NUMBERS {
         return WRONG_LENGTH;
     }
-    let reply = daybook::trade_count(book, party, with_store != 0, store, id);
-    exports_answers::store_count(answer, reply)
+    let store = lent_store(with_store, store);
+    let count = daybook::trade_count(book, Party::from(party), store, id);
+    exports_answers::store_count(answer, count)
 }
 
 // Copies the 20 bytes of the trade of an ordinal, from 0 in book order, among those that a user may see: 1 number, how many bytes there
@@ -76,17 +79,22 @@ pub extern "C" fn daybook_raw_trade(
     if answer.len() != TRADE_NUMBERS {
         return WRONG_LENGTH;
     }
-    let mut number = 0;
-    let part = daybook::trade(
-        book,
-        party,
-        with_store != 0,
-        store,
-        id,
-        ordinal,
-        &mut number,
-    );
-    book_image::fill(trade, part);
-    answer[0] = part.len() as u64;
-    number
+    let store = lent_store(with_store, store);
+    match daybook::trade(book, Party::from(party), store, id, ordinal) {
+        Ok(Some(part)) => {
+            book_image::fill(trade, part);
+            answer[0] = part.len() as u64;
+            0
+        }
+        Ok(None) => {
+            book_image::fill(trade, b"");
+            answer[0] = 0;
+            0
+        }
+        Err(refusal) => {
+            book_image::fill(trade, b"");
+            answer[0] = 0;
+            refusal.number()
+        }
+    }
 }

@@ -1,19 +1,11 @@
 -- The rows of users, stored one after the other: what is left to store gives the whole. Assumes nothing.
 use Rattle.base.specs.Basics.{◌≡◌, refl, sym, ap, ◌∙◌, List, [], ◌∷◌, ◌++◌, map, ℕ, suc, ◌+◌, ◌*◌, ◌<◌, ◌≤◌, arith, drop, get_or, length, length-map}
-use Rattle.base.specs.Basics.{set, drop-cons, drop-length, length-sets, sets}
+use Rattle.base.specs.Basics.{drop-cons, drop-length, length-sets, sets}
 use Rattle.fields.proofs.Sets.{sets_whole}
 use Rattle.user_levels.specs.Levels as rows
 use Rattle.call_answers.specs.Levels.{as_row}
 use Rattle.call_answers.specs.declared.UserLevels.{UserLevels}
 use Rattle.exports_users.specs.Numbers.{row_numbers, rows_numbers}
-
--- four stores, one after the other
-pub four_stored : (xs : List ℕ) (at a : ℕ) {b n : ℕ} (c d : ℕ) → b ≡ n → set (set (set (set xs at a) (at + 1) b) (at + 2) c) (at + 3) d ≡ sets xs at (a ∷ (n ∷ (c ∷ (d ∷ []))))
-four_stored xs at a c d e =
-    let one : at + 1 ≡ suc at = omega arith in
-    let two : at + 2 ≡ suc (suc at) = omega arith in
-    let three : at + 3 ≡ suc (suc (suc at)) = omega arith in
-    rw (e, one, two, three) refl
 
 rows_long : (xs : List rows.UserLevels) → length (rows_numbers xs) ≡ 4 * length xs
 unfolding rows_numbers row_numbers

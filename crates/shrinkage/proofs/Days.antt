@@ -1,5 +1,5 @@
 -- The days of a share: the loop that fills them, their sum, and how far they are apart. Assumes nothing.
-use Rattle.base.specs.Basics.{◌≡◌, refl, sym, ap, ◌∙◌, Bool, true, false, cond, List, [], ◌∷◌, map, ℕ, zero, suc, ◌+◌, ◌*◌, ◌-◌, ◌/◌, ◌%◌}
+use Rattle.base.specs.Basics.{◌≡◌, refl, sym, ap, ◌∙◌, Bool, true, false, cond, List, [], ◌∷◌, map, ℕ, zero, suc, ◌+◌, ◌*◌, ◌/◌, ◌%◌}
 use Rattle.base.specs.Basics.{◌<◌, ◌≤◌, min, div-add-mod', mod-lt, not-suc-le-zero, arith, ltb, length, get_or, set}
 use Rattle.base.specs.Basics.{length-append, length-map, get_or-append, get_or-map, get_or_at, take_all, lt-ltb, le-ltb}
 use Rattle.base.proofs.Fronts.{get_or_inside}

@@ -1,5 +1,5 @@
 -- The laws of the return, each as its statement in specs/Statements.antt says it. Assumes nothing.
-use Rattle.base.specs.Basics.{◌≡◌, refl, ◌∙◌, Bool, true, false, not, cond, none, List, ℕ, zero, suc, ◌+◌, ◌*◌, ◌-◌, div-add-mod'}
+use Rattle.base.specs.Basics.{◌≡◌, refl, ◌∙◌, Bool, true, false, not, cond, List, ℕ, zero, suc, ◌+◌, ◌*◌, ◌-◌, div-add-mod'}
 use Rattle.base.specs.Basics.{mod-lt, arith, T, ℤ, nat_abs, length, replicate}
 use Rattle.base.proofs.Sums.{sum-append}
 use Rattle.base.specs.Sums.{sum}

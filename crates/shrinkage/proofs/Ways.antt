@@ -6,7 +6,7 @@ use Rattle.base.specs.Sums.{sum}
 use Rattle.base.specs.Lists.{all}
 use Rattle.rules.specs.Questions.{after, refusal}
 use Rattle.shrinkage.proofs.Totals.{size_is, is_negative, not_negative}
-use Rattle.shrinkage.specs.Answer.{kwh_of, SumsOf, Divisible, SharesOf}
+use Rattle.shrinkage.specs.Answer.{kwh_of, Summed, Divisible, SharesOf}
 use Rattle.shrinkage.specs.Return.{total, is_below_zero, half, odd, own_sum, share_of, remainder_of, shares, remainders, rest, in_places, nothing, given, in_range, about, returned}
 use Rattle.shrinkage.specs.declared.Shares.{Shares}
 use Rattle.shrinkage.specs.declared.Sums.{Sums}
@@ -23,17 +23,17 @@ module _ (zs : List ℤ) where
     unfolding returned about refusal after
     one_out e = rw (le-leb (length zs) 64 few, e)
 
-    module _ {r : Sums} (s : SumsOf zs r) (valid : r.in_range ≡ true) where
+    module _ {r : Sums} (valid : all in_range zs ≡ true) (s : Summed zs r) where
       -- the sums are those of balances that pass both questions
       accepted : returned zs ≡ cond (is_below_zero (total zs)) (given zs) (nothing 0)
       unfolding returned about refusal after
-      accepted = rw (le-leb (length zs) 64 few, sym s.test ∙ valid)
+      accepted = rw (le-leb (length zs) 64 few, valid)
 
       above_is : r.above.0 ≡ sum pos_part zs
-      above_is = s.above valid
+      above_is = s.above
 
       below_is : r.below.0 ≡ own_sum zs
-      below_is = s.below valid
+      below_is = s.below
 
       -- a total of 0 or above
       pub no_return : r.below.0 ≤ r.above.0 → nothing 0 ≡ returned zs
@@ -57,7 +57,7 @@ module _ (zs : List ℤ) where
         -- H and the sum may be divided
         pub divisible : Divisible zs ((r.below.0 - r.above.0) / 2) r.below.0
         divisible =
-            record { few = few; valid = sym s.test ∙ valid; half_most = omega (arith, s.below_most); sum_is = below_is; some = omega arith }
+            record { few = few; valid = valid; half_most = omega (arith, s.below_most); sum_is = below_is; some = omega arith }
 
         -- the answer: H, the odd kWh, the shares with their remainders, and the rest
         pub returns_half : {d : Shares} → SharesOf zs ((r.below.0 - r.above.0) / 2) r.below.0 d

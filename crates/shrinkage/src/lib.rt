@@ -3,11 +3,13 @@
 // they take any balances and any share, and no book.
 #![tactic(auto)]
 
-ghost use Rattle.std.specs.Prelude.{◌≡◌, ◌*◌, ◌≤◌, ◌<◌, ◌^◌, length};
+ghost use Rattle.std.specs.Prelude.{◌≡◌, ◌*◌, ◌≤◌, ◌<◌, ◌^◌, length, Ok};
 ghost use Rattle.base.specs.Parts.{pos_part, neg_part};
 ghost use Rattle.shrinkage.specs.Return.{returned, nothing};
 ghost use Rattle.shrinkage.specs.Days.{value_on_day, values_over_days};
 ghost use Rattle.shrinkage.specs.Answer.{kwh_of, as_returned, SumsOf, Divisible, SharesOf};
+
+use refusals::Refusal;
 
 // An energy, in kWh.
 #[derive(Clone, Copy)]
@@ -28,54 +30,47 @@ impl Sides {
         ensures above_value { (result.above.0 ≡ pos_part balance) × (result.below.0 ≡ neg_part balance) }
         ensures above_bound { (result.above.0 < 2 ^ 63) × (result.below.0 ≤ 2 ^ 63) }
     {
+        let size = Kwh(balance.unsigned_abs());
         if balance < 0 {
-            return Sides {
+            Sides {
                 above: Kwh(0),
-                below: Kwh((-1 - balance) as u64 + 1),
-            };
-        }
-        Sides {
-            above: Kwh(balance as u64),
-            below: Kwh(0),
+                below: size,
+            }
+        } else {
+            Sides {
+                above: size,
+                below: Kwh(0),
+            }
         }
     }
 }
 
-// Whether all balances are in range, and then what they sum to above 0 and below 0.
+// What balances sum to above 0 and below 0.
 #[derive(Clone, Copy)]
 struct Sums {
-    in_range: bool,
     above: Kwh,
     below: Kwh,
 }
 
-// The sums of balances, of which there are at most 64; none where one of them is out of range.
-fn sums_of(balances: &[i64]) -> Sums
+// The sums of balances, of which there are at most 64, unless one of them is out of range.
+fn sums_of(balances: &[i64]) -> Result<Sums, Refusal>
     requires { length balances.now ≤ 64 }
     ensures { SumsOf balances.now result }
 {
     let mut above = 0;
     let mut below = 0;
-    let mut i = 0;
-    while i < balances.len() {
-        let balance = balances[i];
-        let sides = Sides::of(balance);
+    for balance in balances {
+        let sides = Sides::of(*balance);
         if 500000000 < sides.above.0 + sides.below.0 {
-            return Sums {
-                in_range: false,
-                above: Kwh(0),
-                below: Kwh(0),
-            };
+            return Err(Refusal::BalanceOutOfRange);
         }
         above += sides.above.0;
         below += sides.below.0;
-        i += 1;
     }
-    Sums {
-        in_range: true,
+    Ok(Sums {
         above: Kwh(above),
         below: Kwh(below),
-    }
+    })
 }
 
 // ---- shares
@@ -105,20 +100,17 @@ fn shares_of(balances: &[i64], half: Kwh, sum: Kwh) -> Shares
     let mut shares = [none; 64];
     let mut remainders = [0u64; 64];
     let mut given = 0;
-    let mut i = 0;
-    while i < balances.len() {
-        let balance = balances[i];
-        let own = Sides::of(balance).below;
+    for (i, balance) in balances.iter().enumerate() {
+        let own = Sides::of(*balance).below;
         let dividend = product(half, own);
         let share = dividend / sum.0;
         shares[i] = Kwh(share);
         remainders[i] = dividend % sum.0;
         given += share;
-        i += 1;
     }
     Shares {
-        shares: shares,
-        remainders: remainders,
+        shares,
+        remainders,
         given: Kwh(given),
     }
 }
@@ -126,10 +118,9 @@ fn shares_of(balances: &[i64], half: Kwh, sum: Kwh) -> Shares
 // ---- the return
 
 // Half of the total's absolute value, the odd kWh, the users' shares with the remainders of their divisions, and the rest of the half,
-// which stays in the system account; 0 for a total of 0 or above, and in every field but the number where the number is not 0.
+// which stays in the system account; 0 in every field for a total of 0 or above.
 #[derive(Clone, Copy)]
 pub struct ShrinkageReturn {
-    pub number: u32,
     pub half: Kwh,
     pub odd: Kwh,
     pub shares: [Kwh; 64],
@@ -138,53 +129,46 @@ pub struct ShrinkageReturn {
 }
 
 impl ShrinkageReturn {
-    // A number alone.
-    fn nothing(number: u32) -> ShrinkageReturn
-        ensures { as_returned result ≡ nothing number }
+    // What a total of 0 or above returns.
+    fn nothing() -> ShrinkageReturn
+        ensures { as_returned (Ok result) ≡ nothing 0 }
     {
         let none = Kwh(0);
-        let shares = [none; 64];
-        let remainders = [0u64; 64];
         ShrinkageReturn {
-            number: number,
             half: none,
             odd: none,
-            shares: shares,
-            remainders: remainders,
+            shares: [none; 64],
+            remainders: [0; 64],
             rest: none,
         }
     }
 }
 
 // The return for the users' balances, in their order.
-pub fn shrinkage_return(balances: &[i64]) -> ShrinkageReturn
+pub fn shrinkage_return(balances: &[i64]) -> Result<ShrinkageReturn, Refusal>
     ensures { as_returned result ≡ returned balances.now }
 {
     if 64 < balances.len() {
-        return ShrinkageReturn::nothing(28);
+        return Err(Refusal::TooManyUsers);
     }
-    let sums = sums_of(balances);
-    if !sums.in_range {
-        return ShrinkageReturn::nothing(27);
-    }
-    let above = sums.above;
-    let below = sums.below;
+    let Sums { above, below } = sums_of(balances)?;
     if below.0 <= above.0 {
-        return ShrinkageReturn::nothing(0);
+        return Ok(ShrinkageReturn::nothing());
     }
     let negative = below.0 - above.0;
     let half = Kwh(negative / 2);
-    let users = shares_of(balances, half, below);
-    let shares = users.shares;
-    let remainders = users.remainders;
-    ShrinkageReturn {
-        number: 0,
-        half: half,
+    let Shares {
+        shares,
+        remainders,
+        given,
+    } = shares_of(balances, half, below);
+    Ok(ShrinkageReturn {
+        half,
         odd: Kwh(negative % 2),
-        shares: shares,
-        remainders: remainders,
-        rest: Kwh(half.0 - users.given.0),
-    }
+        shares,
+        remainders,
+        rest: Kwh(half.0 - given.0),
+    })
 }
 
 // ---- 30 days
@@ -195,9 +179,10 @@ fn on_day(whole: u64, left: u64, day: usize) -> Kwh
     ensures { result.0 ≡ value_on_day whole left day }
 {
     if (day as u64) < left {
-        return Kwh(whole + 1);
+        Kwh(whole + 1)
+    } else {
+        Kwh(whole)
     }
-    Kwh(whole)
 }
 
 // A share over 30 days.
@@ -208,10 +193,8 @@ pub fn over_days(share: Kwh) -> [Kwh; 30]
     let left = share.0 % 30;
     let none = Kwh(0);
     let mut days = [none; 30];
-    let mut day = 0;
-    while day < 30 {
+    for day in 0..30 {
         days[day] = on_day(whole, left, day);
-        day += 1;
     }
     days
 }

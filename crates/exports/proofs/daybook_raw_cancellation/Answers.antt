@@ -16,6 +16,6 @@ returns-then-answer-ne-CANCELLATION_NUMBERS c = let a = c.args in
 
 pub returns : goal.returns
 unfolding is_yes
-returns c = let is = c.cancellation-cancellation.ensures in
-    stored_both 256 3 _ _ _ _ _ _ _ _ c.if-marks-ne-MARKS.false c.if-answer-ne-CANCELLATION_NUMBERS.false (c.store_cancellation.ensures.0 ∙ ap (λ (r : Cancellation). r.number) is)
-    (c.store_cancellation.ensures.1 ∙ ap mark_numbers is) (c.store_cancellation.ensures.2 ∙ ap cancellation_numbers is)
+returns c = let is = (rw (c.from.ensures, c.lent_store-store.ensures) at c.cancellation-cancellation.ensures) in
+    stored_both 256 3 _ _ _ _ _ _ _ _ c.if-marks-ne-MARKS.false c.if-answer-ne-CANCELLATION_NUMBERS.false (c.store_cancellation.ensures.number ∙ ap (λ (r : Cancellation). r.number) is)
+    (c.store_cancellation.ensures.marks ∙ ap mark_numbers is) (c.store_cancellation.ensures.numbers ∙ ap cancellation_numbers is)

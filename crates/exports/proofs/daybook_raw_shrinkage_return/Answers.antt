@@ -11,5 +11,5 @@ returns-then-answer-ne-RETURN_NUMBERS c = refused 131 c.args.answer.now _ _ _ c.
 pub returns : goal.returns
 returns c = let as-defined = c.shrinkage_return-returned.ensures in
     stored 131 _ _ _ _ _ _ c.if-answer-ne-RETURN_NUMBERS.false
-    (c.store_return.ensures.0 ∙ ap (λ (r : Returned). r.number) as-defined)
-    (c.store_return.ensures.1 ∙ ap return_numbers as-defined)
+    (c.store_return.ensures.number ∙ ap (λ (r : Returned). r.number) as-defined)
+    (c.store_return.ensures.numbers ∙ ap return_numbers as-defined)

@@ -10,4 +10,4 @@ returns-then-answer-ne-WARNING_NUMBERS c = refused 1 c.args.answer.now _ _ _ c.i
 
 pub returns : goal.returns
 unfolding is_yes
-returns c = replied 1 _ (λ (r : Reply). r.number) warning_numbers _ _ _ _ c.if-answer-ne-WARNING_NUMBERS.false c.warning-reply.ensures c.store_warning.ensures.0 c.store_warning.ensures.1
+returns c = replied 1 _ (λ (r : Reply). r.number) warning_numbers _ _ _ _ c.if-answer-ne-WARNING_NUMBERS.false (rw (c.from.ensures, c.lent_store-store.ensures) at c.warning-warned.ensures) c.store_warning.ensures.number c.store_warning.ensures.numbers

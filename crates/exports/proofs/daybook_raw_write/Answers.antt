@@ -1,4 +1,5 @@
 -- `daybook_raw_write` refuses an image of another length, and passes one of 9,512 bytes on. Assumes nothing.
+use Rattle.base.specs.Basics.{◌∙◌}
 use Rattle.exports.proofs.Lent.{refused, stored}
 use Rattle.exports.proofs.daybook_raw_write.Goals as goal
 
@@ -6,4 +7,4 @@ pub returns-then-image-ne-IMAGE_SIZE : goal.returns-then-image-ne-IMAGE_SIZE
 returns-then-image-ne-IMAGE_SIZE c = refused 9512 c.args.image.now _ _ _ c.if-image-ne-IMAGE_SIZE.true
 
 pub returns : goal.returns
-returns c = stored 9512 _ _ _ _ _ _ c.if-image-ne-IMAGE_SIZE.false c.write.ensures.asked c.write.ensures.part
+returns c = stored 9512 _ _ _ _ _ _ c.if-image-ne-IMAGE_SIZE.false (c.number_of.ensures ∙ c.write.ensures.asked) c.write.ensures.part

@@ -10,4 +10,4 @@ returns-then-answer-ne-LEVEL_NUMBERS c = refused 1 c.args.answer.now _ _ _ c.if-
 
 pub returns : goal.returns
 unfolding is_yes
-returns c = replied 1 _ (λ (r : Reply). r.number) level_numbers _ _ _ _ c.if-answer-ne-LEVEL_NUMBERS.false c.level-reply.ensures c.store_level.ensures.0 c.store_level.ensures.1
+returns c = replied 1 _ (λ (r : Reply). r.number) level_numbers _ _ _ _ c.if-answer-ne-LEVEL_NUMBERS.false (rw (c.from.ensures, c.lent_store-store.ensures) at c.level-level.ensures) c.store_level.ensures.number c.store_level.ensures.numbers

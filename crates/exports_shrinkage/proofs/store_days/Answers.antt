@@ -30,11 +30,5 @@ offset_bounds-answer-i c = omega arith
 pub bounds-answer-i : goal.bounds-answer-i
 bounds-answer-i c = omega (arith, c.loop-i.invariant.long, c.requires)
 
-pub overflow_add-i : goal.overflow_add-i
-overflow_add-i c = omega arith
-
-pub loop-i-smaller : goal.loop-i-smaller
-loop-i-smaller c = omega arith
-
 pub shape_of-answer : goal.shape_of-answer
 shape_of-answer c = c.loop-i.invariant.long

@@ -1,9 +1,9 @@
--- `store_levels` stores the rows of all users. Assumes nothing.
-use Rattle.base.specs.Basics.{refl}
-use Rattle.call_answers.specs.Levels.{levels_told}
-use Rattle.exports_users.specs.Numbers.{users_numbers}
+-- `store_levels`: the rows of a refused call are 64 of nobody, whose numbers are all 0. Assumes nothing.
+use Rattle.base.specs.Basics.{◌∙◌, replicate, ap, ℕ}
+use Rattle.exports_users.specs.Numbers.{number_of_state, row_numbers, rows_numbers, users_numbers}
+use Rattle.user_levels.specs.Levels.{no_levels, no_user}
 use Rattle.exports_users.proofs.store_levels.Goals as goal
 
-pub returns : goal.returns
-unfolding users_numbers levels_told
-returns c = (refl, c.store_rows.ensures)
+pub returns-in-Err-clause-numbers : goal.returns-in-Err-clause-numbers
+unfolding users_numbers rows_numbers row_numbers number_of_state no_levels no_user
+returns-in-Err-clause-numbers c = rw c.in-Err.is (c.store_refusal.ensures.numbers ∙ ap (λ (n : ℕ). replicate n 0) c.requires)

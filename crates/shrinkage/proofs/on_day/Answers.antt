@@ -7,6 +7,6 @@ pub returns-then-day-left : goal.returns-then-day-left
 unfolding value_on_day
 returns-then-day-left c = rw (lt-ltb _ _ c.if-day-left.true) (omega arith)
 
-pub returns : goal.returns
+pub returns-else-day-left : goal.returns-else-day-left
 unfolding value_on_day
-returns c = rw (le-ltb _ _ c.if-day-left.false) (omega arith)
+returns-else-day-left c = rw (le-ltb _ _ c.if-day-left.false) (omega arith)

@@ -21,11 +21,5 @@ offset_bounds-days-day c = omega arith
 pub bounds-days-day : goal.bounds-days-day
 bounds-days-day c = omega arith
 
-pub overflow_add-day : goal.overflow_add-day
-overflow_add-day c = omega arith
-
-pub loop-day-smaller : goal.loop-day-smaller
-loop-day-smaller c = omega arith
-
 pub loop-day-preserved : goal.loop-day-preserved
 loop-day-preserved c = filling_more c.loop-day.invariant (omega arith) c.on_day.ensures

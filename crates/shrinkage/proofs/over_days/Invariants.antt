@@ -1,9 +1,5 @@
-use Rattle.base.specs.Basics.{◌-◌}
 use Rattle.shrinkage.proofs.Days.{Filling}
 use Rattle.shrinkage.proofs.over_days.Given as goal
 
 abbrev pub invariant-loop-day : goal.invariant-loop-day
 invariant-loop-day l = Filling l.whole l.left l.days l.day
-
-abbrev pub decreases-loop-day : goal.decreases-loop-day
-decreases-loop-day l = 30 - l.day

@@ -1,25 +1,25 @@
 -- `daybook::call` makes the call of a time of the day after the opening questions, with the figures of its setting; a log that is given is emptied. Assumes nothing.
-use Rattle.call_admission.proofs.Log.{admitted_with}
+use Rattle.base.specs.Basics.{◌∙◌, sym}
 use Rattle.requests.proofs.Emptied.{logged_emptied}
 use Rattle.rights.proofs.Logged.{logged_by}
-use Rattle.rights.specs.Party.{matter_by}
-use Rattle.daybook.proofs.Logs.{accepted, call_empties, emptiable}
+use Rattle.daybook.proofs.Logs.{accepted, admitted_log, call_empties, emptiable, outcome_number}
+use Rattle.daybook.proofs.Opened.{handed_on, opened_pass}
 use Rattle.daybook.proofs.changes.call.Goals as goal
 
-pub by_log-asked-requires : goal.by_log-asked-requires
-by_log-asked-requires c = λ z. (c.admit_with_sums-admission.ensures.opened z).parties.passes
+pub by_log-opened-requires : goal.by_log-opened-requires
+by_log-opened-requires c = opened_pass _ _ _ _ _ c.admit_with_sums-admission.ensures.opened
 
-pub call-answer-requires : goal.call-answer-requires
-call-answer-requires c = λ z. c.admit_with_sums-admission.ensures.opened (c.by_log-asked.ensures.before z)
+pub call-outcome-requires : goal.call-outcome-requires
+call-outcome-requires c = handed_on _ _ _ c.by_log-opened.ensures.handed_on c.admit_with_sums-admission.ensures.opened
 
 pub empty-requires : goal.empty-requires
-empty-requires c = let asked = c.by_log-asked.ensures in
-    let made = c.call-answer in
-    λ e z. emptiable asked (λ n. (c.admit_with_sums-admission.ensures.opened (asked.before n)).parties.passes) (accepted _ made.ensures z) made.auto.book e
+empty-requires c = let asked = c.by_log-opened.ensures.asked in
+    let made = c.call-outcome in
+    λ e z. emptiable asked (λ k. opened_pass _ _ _ _ _ c.admit_with_sums-admission.ensures.opened (asked.before k))
+    (accepted _ made.ensures (sym (outcome_number _ _ _ c.map.ensures.variant c.map.ensures.cases) ∙ z)) made.auto.book e
 
 pub returns : goal.returns
-unfolding matter_by
 returns c = let a = c.args in
     logged_by (logged_emptied (call_empties a.afternoon a.id) a.with_log
-    (admitted_with a.with_log c.admit_with_sums-admission.ensures.admitted c.by_log-asked.ensures) c.call-answer.ensures
-    c.empty.ensures)
+    (admitted_log a.with_log _ _ c.admit_with_sums-admission.ensures.admitted c.by_log-opened.ensures.asked c.by_log-opened.ensures.handed_on) c.call-outcome.ensures
+    (rw (outcome_number _ _ _ c.map.ensures.variant c.map.ensures.cases) at c.empty.ensures))

@@ -1,27 +1,27 @@
 -- `daybook::run` runs after the opening questions, with the figures of its setting, and a log that is given has its reductions noted. Assumes nothing.
-use Rattle.call_admission.proofs.Log.{admitted_with}
 use Rattle.rights.proofs.Logged.{logged_by}
-use Rattle.rights.specs.Party.{matter_by}
-use Rattle.daybook.proofs.Logs.{called_with, called_without}
+use Rattle.daybook.proofs.Logs.{admitted_log, called_with, called_without, log_fits_lent}
+use Rattle.daybook.proofs.Opened.{handed_on, opened_pass}
 use Rattle.daybook.proofs.changes.run.Goals as goal
 
-pub by_log-asked-requires : goal.by_log-asked-requires
-by_log-asked-requires c = λ z. (c.admit_with_sums-admission.ensures.opened z).parties.passes
+pub by_log-opened-requires : goal.by_log-opened-requires
+by_log-opened-requires c = opened_pass _ _ _ _ _ c.admit_with_sums-admission.ensures.opened
 
 pub run-requires : goal.run-requires
-run-requires c = λ z. c.admit_with_sums-admission.ensures.opened (c.by_log-asked.ensures.before z)
+run-requires c = record {
+  opened = handed_on _ _ _ c.by_log-opened.ensures.handed_on c.admit_with_sums-admission.ensures.opened;
+  t = log_fits_lent _ _ _ _ c.if-with_log.true c.by_log-opened.ensures.asked;
+}
 
-pub returns-then-not-with_log : goal.returns-then-not-with_log
-unfolding matter_by
-returns-then-not-with_log c = let a = c.args in
-    logged_by (called_without a.with_log c.if-not-with_log.true
-    (admitted_with a.with_log c.admit_with_sums-admission.ensures.admitted c.by_log-asked.ensures) c.run.ensures)
+pub returns-then-with_log : goal.returns-then-with_log
+returns-then-with_log c = let a = c.args in
+    logged_by (called_with a.with_log c.if-with_log.true
+    (admitted_log a.with_log _ _ c.admit_with_sums-admission.ensures.admitted c.by_log-opened.ensures.asked c.by_log-opened.ensures.handed_on) c.run.ensures)
 
-pub run-requires-2 : goal.run-requires-2
-run-requires-2 c = record { opened = λ z. c.admit_with_sums-admission.ensures.opened (c.by_log-asked.ensures.before z); t = λ z. c.by_log-asked.ensures.fits z c.if-not-with_log.false }
+pub run-requires-else-with_log : goal.run-requires-else-with_log
+run-requires-else-with_log c = handed_on _ _ _ c.by_log-opened.ensures.handed_on c.admit_with_sums-admission.ensures.opened
 
-pub returns : goal.returns
-unfolding matter_by
-returns c = let a = c.args in
-    logged_by (called_with a.with_log c.if-not-with_log.false
-    (admitted_with a.with_log c.admit_with_sums-admission.ensures.admitted c.by_log-asked.ensures) c.run-2.ensures)
+pub returns-else-with_log : goal.returns-else-with_log
+returns-else-with_log c = let a = c.args in
+    logged_by (called_without a.with_log c.if-with_log.false
+    (admitted_log a.with_log _ _ c.admit_with_sums-admission.ensures.admitted c.by_log-opened.ensures.asked c.by_log-opened.ensures.handed_on) c.run-else-with_log.ensures)

@@ -1,16 +1,12 @@
 -- `convert` asks the questions of the book and 26 first. Assumes nothing.
-use Rattle.base.specs.Basics.{sym, ◌∙◌, arith}
+use Rattle.call_rights.specs.Acting.{as_party}
 use Rattle.conversions.proofs.Acting.{conversion_by_lem}
-use Rattle.rights.specs.Party.{matter_by, party_of}
+use Rattle.daybook.proofs.Opened.{entered_pass}
 use Rattle.daybook.proofs.storage.convert.Goals as goal
 
-pub ask-number-requires : goal.ask-number-requires
-ask-number-requires c = record { asked_value = c.number-asked.ensures; matter_bound = omega arith }
-
 pub convert-requires : goal.convert-requires
-convert-requires c e = sym c.number-asked.ensures ∙ c.ask-number.ensures.asked_value_2 e
+convert-requires c = entered_pass _ _ _ _ c.ask-entered.ensures.value
 
 pub returns : goal.returns
-unfolding matter_by
 returns c = let a = c.args in
-    conversion_by_lem (party_of a.party) a.version a.book.now a.out.now c.ask-number.ensures.value c.convert.ensures
+    conversion_by_lem (as_party a.party) a.version a.book.now a.out.now c.ask-entered.ensures.value c.convert.ensures

@@ -9,4 +9,4 @@ returns-then-answer-ne-CALL_NUMBERS c = not_called 2 c.args.answer.now call_numb
 
 pub returns : goal.returns
 unfolding is_yes
-returns c = answered 2 _ call_numbers _ _ _ _ _ _ _ _ _ c.if-answer-ne-CALL_NUMBERS.false c.call-call.ensures c.store_call.ensures.0 c.store_call.ensures.1
+returns c = answered 2 _ call_numbers _ _ _ _ _ _ _ _ _ c.if-answer-ne-CALL_NUMBERS.false (rw (c.from-party.ensures, c.lent_store-store.ensures) at c.call-call.ensures) c.store_call.ensures.number c.store_call.ensures.numbers

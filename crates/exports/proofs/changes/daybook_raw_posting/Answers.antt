@@ -6,4 +6,4 @@ use Rattle.exports.proofs.changes.daybook_raw_posting.Goals as goal
 
 pub returns : goal.returns
 unfolding is_yes
-returns c = rw (to_z-of_z w64 c.args.amount c.ranges.amount) at c.posting.ensures
+returns c = let posted = (rw (to_z-of_z w64 c.args.amount c.ranges.amount, c.from-party.ensures, c.lent_store-store.ensures) at c.posting.ensures) in rw c.number_of.ensures posted

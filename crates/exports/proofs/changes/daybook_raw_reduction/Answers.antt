@@ -9,5 +9,5 @@ returns-then-answer-ne-REDUCTION_NUMBERS c = not_called 5 c.args.answer.now redu
 
 pub returns : goal.returns
 unfolding is_yes
-returns c = answered 5 _ reduction_numbers _ _ _ _ _ _ _ _ _ c.if-answer-ne-REDUCTION_NUMBERS.false c.reduction-reduction.ensures c.store_reduction.ensures.0
-    c.store_reduction.ensures.1
+returns c = answered 5 _ reduction_numbers _ _ _ _ _ _ _ _ _ c.if-answer-ne-REDUCTION_NUMBERS.false (rw (c.from-party.ensures, c.lent_store-store.ensures) at c.reduction-reduction.ensures) c.store_reduction.ensures.number
+    c.store_reduction.ensures.numbers

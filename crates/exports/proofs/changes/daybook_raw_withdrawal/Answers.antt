@@ -9,5 +9,5 @@ returns-then-answer-ne-WITHDRAWAL_NUMBERS c = not_called 2 c.args.answer.now wit
 
 pub returns : goal.returns
 unfolding is_yes
-returns c = answered 2 _ withdrawal_numbers _ _ _ _ _ _ _ _ _ c.if-answer-ne-WITHDRAWAL_NUMBERS.false c.withdrawal-withdrawal.ensures c.store_withdrawal.ensures.0
-    c.store_withdrawal.ensures.1
+returns c = answered 2 _ withdrawal_numbers _ _ _ _ _ _ _ _ _ c.if-answer-ne-WITHDRAWAL_NUMBERS.false (rw (c.from.ensures, c.lent_store-store.ensures) at c.withdrawal-withdrawal.ensures) c.store_withdrawal.ensures.number
+    c.store_withdrawal.ensures.numbers

@@ -1,5 +1,5 @@
 -- `daybook_raw_trade` copies the part to the front of 20 zeros and stores its length where both lent parts are of their length, and leaves them as they are where one is not. Assumes nothing.
-use Rattle.base.specs.Basics.{◌∙◌, ap, ap₂, List, [], ◌∷◌, ℕ, arith, length}
+use Rattle.base.specs.Basics.{◌∙◌, ap, ap₂, List, [], ◌∷◌, ℕ, length}
 use Rattle.book_image.specs.Image.{padded}
 use Rattle.exports_answers.specs.Numbers.{trade_numbers}
 use Rattle.exports.specs.Answers.{is_yes}
@@ -16,12 +16,24 @@ returns-then-answer-ne-TRADE_NUMBERS c = let a = c.args in
     second_refused 20 1 a.trade.now a.answer.now _ _ _ c.if-trade-ne-TRADE_SIZE.false c.if-answer-ne-TRADE_NUMBERS.true
 
 pub fill-requires : goal.fill-requires
-fill-requires c = rw (c.trade-part.ensures.shows, c.if-trade-ne-TRADE_SIZE.false) (trade_length _ _ _ _ _)
+unfolding is_yes
+fill-requires c = let handed = (rw (c.from.ensures, c.lent_store-store.ensures, c.in-Ok-Some.is, c.in-Ok-Some.field-0-is) at c.trade.ensures.handed) in
+    rw (handed.shows, c.if-trade-ne-TRADE_SIZE.false) (trade_length _ _ _ _ _)
 
-pub bounds-answer-0 : goal.bounds-answer-0
-bounds-answer-0 c = omega (arith, c.if-answer-ne-TRADE_NUMBERS.false)
-
-pub returns : goal.returns
+pub returns-in-Ok-Some : goal.returns-in-Ok-Some
 unfolding is_yes trade_numbers
-returns c = stored_both 20 1 _ _ _ _ _ _ _ _ c.if-trade-ne-TRADE_SIZE.false c.if-answer-ne-TRADE_NUMBERS.false c.trade-part.ensures.asked (c.fill.ensures ∙ ap₂ padded c.if-trade-ne-TRADE_SIZE.false c.trade-part.ensures.shows)
-    (one_stored c.args.answer.now _ c.if-answer-ne-TRADE_NUMBERS.false ∙ ap (λ (p : List ℕ). length p ∷ []) c.trade-part.ensures.shows)
+returns-in-Ok-Some c = let handed = (rw (c.from.ensures, c.lent_store-store.ensures, c.in-Ok-Some.is, c.in-Ok-Some.field-0-is) at c.trade.ensures.handed) in
+    stored_both 20 1 _ _ _ _ _ _ _ _ c.if-trade-ne-TRADE_SIZE.false c.if-answer-ne-TRADE_NUMBERS.false handed.asked (c.fill.ensures ∙ ap₂ padded c.if-trade-ne-TRADE_SIZE.false handed.shows)
+    (one_stored c.args.answer.now _ c.if-answer-ne-TRADE_NUMBERS.false ∙ ap (λ (p : List ℕ). length p ∷ []) handed.shows)
+
+pub returns-in-Ok-None : goal.returns-in-Ok-None
+unfolding is_yes trade_numbers
+returns-in-Ok-None c = let handed = (rw (c.from.ensures, c.lent_store-store.ensures, c.in-Ok-None.is, c.in-Ok-None.field-0-is) at c.trade.ensures.handed) in
+    stored_both 20 1 _ _ _ _ _ _ _ _ c.if-trade-ne-TRADE_SIZE.false c.if-answer-ne-TRADE_NUMBERS.false handed.asked (c.fill-in-Ok-None.ensures ∙ ap₂ padded c.if-trade-ne-TRADE_SIZE.false handed.shows)
+    (one_stored c.args.answer.now _ c.if-answer-ne-TRADE_NUMBERS.false ∙ ap (λ (p : List ℕ). length p ∷ []) handed.shows)
+
+pub returns-in-Err : goal.returns-in-Err
+unfolding is_yes trade_numbers
+returns-in-Err c = let handed = (rw (c.from.ensures, c.lent_store-store.ensures, c.in-Err.is) at c.trade.ensures.handed) in
+    stored_both 20 1 _ _ _ _ _ _ _ _ c.if-trade-ne-TRADE_SIZE.false c.if-answer-ne-TRADE_NUMBERS.false (c.number.ensures.value ∙ handed.asked) (c.fill-in-Err.ensures ∙ ap₂ padded c.if-trade-ne-TRADE_SIZE.false handed.shows)
+    (one_stored c.args.answer.now _ c.if-answer-ne-TRADE_NUMBERS.false ∙ ap (λ (p : List ℕ). length p ∷ []) handed.shows)

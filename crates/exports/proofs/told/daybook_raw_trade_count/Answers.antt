@@ -1,5 +1,4 @@
 -- `daybook_raw_trade_count` stores how many trades the user may see in a part of one place, and leaves another part as it is. Assumes nothing.
-use Rattle.call_answers.specs.Told.{count_told}
 use Rattle.rights.specs.Trades.{Told}
 use Rattle.exports_answers.specs.Numbers.{count_numbers}
 use Rattle.exports.specs.Answers.{is_yes}
@@ -10,5 +9,5 @@ pub returns-then-answer-ne-COUNT_NUMBERS : goal.returns-then-answer-ne-COUNT_NUM
 returns-then-answer-ne-COUNT_NUMBERS c = refused 1 c.args.answer.now _ _ _ c.if-answer-ne-COUNT_NUMBERS.true
 
 pub returns : goal.returns
-unfolding is_yes count_told
-returns c = replied 1 _ (λ (r : Told). r.number) count_numbers _ _ _ _ c.if-answer-ne-COUNT_NUMBERS.false c.trade_count-reply.ensures c.store_count.ensures.0 c.store_count.ensures.1
+unfolding is_yes
+returns c = replied 1 _ (λ (r : Told). r.number) count_numbers _ _ _ _ c.if-answer-ne-COUNT_NUMBERS.false (rw (c.from.ensures, c.lent_store-store.ensures) at c.trade_count-count.ensures) c.store_count.ensures.number c.store_count.ensures.numbers

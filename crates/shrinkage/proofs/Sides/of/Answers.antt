@@ -1,34 +1,22 @@
--- `Sides::of`: a balance of 0 or more is itself; of one below 0 the function takes −1 − balance, which is a natural below 2^63, and adds 1. Assumes nothing.
-use Rattle.base.specs.Basics.{sym, ap, subst, arith, T, ℤ, nat_abs}
-use lib.Signed.{non_neg}
+-- `Sides::of`: the absolute value of a balance is what it is above 0 where it is 0 or more, else what it is below 0. Assumes nothing.
+use Rattle.base.specs.Basics.{◌≡◌, ◌∙◌, ap, ℕ, ◌+◌, arith, ℤ, nat_abs}
 use mir.Syntax.{w64}
-use mir.Val.{Fits, SFits}
-use Rattle.base.proofs.Signs.{below, not_below, kept_again}
+use mir.Val.{SFits, to_z, of_z}
+use mir.ValLaws.{to_z-of_z}
+use Rattle.base.proofs.Linear.{abs_parts}
+use Rattle.base.proofs.Signs.{below, not_below}
+use Rattle.base.specs.Parts.{pos_part, neg_part}
 use Rattle.shrinkage.proofs.Sides.of.Goals as goal
 
-pub overflow_sub-result : goal.overflow_sub-result
-overflow_sub-result c = let b = below c.args.balance c.ranges.balance c.if-balance-lt0.true in
-    subst (λ (y : ℤ). SFits w64 y) (sym b.kept) (record { sfits = b.small })
+sizes : (z : ℤ) → SFits w64 z → {size : ℕ} → size ≡ nat_abs (to_z w64 (of_z w64 z)) → size ≡ pos_part z + neg_part z
+sizes z f e = e ∙ ap nat_abs (to_z-of_z w64 z f) ∙ abs_parts z
 
-pub overflow_cast-result : goal.overflow_cast-result
-overflow_cast-result c = let z = c.args.balance in
+pub returns-then-balance-lt0-clause-above_value : goal.returns-then-balance-lt0-clause-above_value
+returns-then-balance-lt0-clause-above_value c = let z = c.args.balance in
     let b = below z c.ranges.balance c.if-balance-lt0.true in
-    subst (λ (y : ℤ). T (non_neg y) × Fits w64 (nat_abs y)) (sym (kept_again z b)) (tt, omega (arith, b.small))
+    omega (arith, sizes z c.ranges.balance c.unsigned_abs.ensures.value, b.above_zero)
 
-pub overflow_add-result : goal.overflow_add-result
-overflow_add-result c = let z = c.args.balance in
-    let b = below z c.ranges.balance c.if-balance-lt0.true in
-    omega (arith, ap nat_abs (kept_again z b), b.small)
-
-pub returns-then-balance-lt0 : goal.returns-then-balance-lt0
-returns-then-balance-lt0 c = let z = c.args.balance in
-    let b = below z c.ranges.balance c.if-balance-lt0.true in
-    record { above_value = omega (arith, ap nat_abs (kept_again z b), b.small, b.above_zero, b.below_zero); above_bound = omega (arith, ap nat_abs (kept_again z b), b.small, b.above_zero, b.below_zero) }
-
-pub overflow_cast-result-2 : goal.overflow_cast-result-2
-overflow_cast-result-2 c = let b = not_below c.args.balance c.ranges.balance c.if-balance-lt0.false in
-    subst (λ (y : ℤ). T (non_neg y) × Fits w64 (nat_abs y)) (sym b.kept) (tt, omega (arith, b.small))
-
-pub returns : goal.returns
-returns c = let b = not_below c.args.balance c.ranges.balance c.if-balance-lt0.false in
-    record { above_value = omega (arith, ap nat_abs b.kept, b.small, b.below_zero); above_bound = omega (arith, ap nat_abs b.kept, b.small, b.below_zero) }
+pub returns-else-balance-lt0-clause-above_value : goal.returns-else-balance-lt0-clause-above_value
+returns-else-balance-lt0-clause-above_value c = let z = c.args.balance in
+    let b = not_below z c.ranges.balance c.if-balance-lt0.false in
+    omega (arith, sizes z c.ranges.balance c.unsigned_abs.ensures.value, b.below_zero)
