@@ -3,13 +3,16 @@
 // not open, that is said on standard error. A read or a write that fails ends the program with its error.
 #![tactic(auto)]
 
+use call_rights::Party;
 use std::io;
 use std::io::Write;
 
 // Reads one book and prints its place and its number.
 fn ask(out: &mut impl Write, place: u64, bytes: &[u8]) -> io::Result<()> {
-    let opening = daybook::read(bytes, call_rights::OPERATOR);
-    let number = opening.number;
+    let number = match daybook::read(bytes, Party::Operator) {
+        Ok(_) => 0,
+        Err(refusal) => refusal.number(),
+    };
     writeln!(out, "{place} {number}")
 }
 
@@ -17,6 +20,7 @@ fn ask(out: &mut impl Write, place: u64, bytes: &[u8]) -> io::Result<()> {
 fn ask_all(out: &mut impl Write, file: &[u8]) -> io::Result<()> {
     let mut at = 0;
     let mut place = 0;
+    // From book to book, each as long as its own length says.
     while 2 <= file.len() - at {
         let len = fields::get_u16(file, at) as usize;
         let start = at + 2;

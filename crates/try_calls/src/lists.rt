@@ -4,6 +4,7 @@
 ghost use Rattle.std.specs.Prelude.{◌+◌, ◌*◌, ◌≤◌, length};
 
 use crate::numbers;
+use call_rights::Party;
 use std::io;
 use std::io::Write;
 
@@ -11,10 +12,8 @@ use std::io::Write;
 fn read_numbers(part: &[u8], at: usize, column: &mut [u32])
     requires { at + 4 * length column.old ≤ length part.now }
 {
-    let mut i = 0;
-    while i < column.len() {
+    for i in 0..column.len() {
         column[i] = fields::get_u32(part, at + 4 * i);
-        i += 1;
     }
 }
 
@@ -22,10 +21,8 @@ fn read_numbers(part: &[u8], at: usize, column: &mut [u32])
 fn read_amounts(part: &[u8], at: usize, column: &mut [i64])
     requires { at + 8 * length column.old ≤ length part.now }
 {
-    let mut i = 0;
-    while i < column.len() {
+    for i in 0..column.len() {
         column[i] = numbers::amount_of(fields::get_u64(part, at + 8 * i));
-        i += 1;
     }
 }
 
@@ -40,11 +37,10 @@ fn post(
     places: &mut [u32],
 ) -> io::Result<()> {
     let mut log = [0u8; 1];
-    let number = daybook::list(
+    let posted = daybook::list(
         book,
-        call_rights::OPERATOR,
-        false,
-        b"",
+        Party::Operator,
+        None,
         false,
         &mut log,
         ids,
@@ -53,7 +49,7 @@ fn post(
         places,
     );
     write!(out, "{place}")?;
-    day_print::number(out, number as u64)?;
+    day_print::number(out, refusals::number_of(posted) as u64)?;
     numbers::print_numbers(out, places)?;
     out.write_all(b"\nbook")?;
     numbers::print_bytes(out, book)?;
@@ -115,16 +111,14 @@ fn count_at(file: &[u8], at: usize) -> usize
     ensures { result ≤ 513 }
 {
     let count = fields::get_u16(file, at) as usize;
-    if 513 < count {
-        return 513;
-    }
-    count
+    count.min(513)
 }
 
 // Makes every list of the file `lists`, up to the last that is whole.
 pub fn make_lists(out: &mut impl Write, file: &mut [u8]) -> io::Result<()> {
     let mut at = 0;
     let mut place = 0;
+    // From list to list, each as long as its own counts say.
     while 10 <= file.len() - at {
         let ids = count_at(file, at);
         let areas = count_at(file, at + 2);

@@ -17,145 +17,139 @@ ghost use Rattle.std.specs.Prelude.{◌≤◌, max};
 
 use book_records::User;
 use book_tables::Book;
-use call_answers::{CallAnswer, CancellationAnswer, LevelAnswer, ReductionAnswer, RunAnswer};
-use call_rights::OPERATOR;
+use call_answers::Run;
+use call_rights::Party;
+use refusals::Refusal;
 use std::io;
-use std::io::{Eprint, Write};
-use std::rt::Files;
+use std::io::Write;
 
-fn print_level(out: &mut impl Write, answer: LevelAnswer) -> io::Result<()> {
-    let level = answer.level;
-    day_print::number(out, answer.number as u64)?;
-    day_print::number(out, level.0)
-}
-
-fn print_call(out: &mut impl Write, answer: CallAnswer) -> io::Result<()> {
-    let level = answer.level;
-    let added = answer.added;
-    day_print::number(out, answer.number as u64)?;
-    day_print::number(out, level.0)?;
-    day_print::number(out, added.0)
-}
-
-fn print_run(out: &mut impl Write, answer: RunAnswer) -> io::Result<()> {
-    let mwh = answer.mwh;
-    let worth = answer.worth;
-    day_print::number(out, answer.number as u64)?;
-    day_print::number(out, answer.reductions)?;
-    day_print::number(out, mwh.0)?;
-    day_print::number(out, worth.0)
-}
-
-// The place of a trade that is marked.
-fn print_mark(out: &mut impl Write, i: usize, marked: bool) -> io::Result<()> {
-    if marked {
-        return day_print::number(out, i as u64);
+// The number of an answer, 0 where the call is carried out, and its fields, which are 0 where it is refused.
+fn print_answer<const N: usize>(
+    out: &mut impl Write,
+    answer: Result<[u64; N], Refusal>,
+) -> io::Result<()> {
+    let (number, fields) = match answer {
+        Ok(fields) => (0, fields),
+        Err(refusal) => (refusal.number(), [0; N]),
+    };
+    day_print::number(out, number as u64)?;
+    for field in &fields {
+        day_print::number(out, *field)?;
     }
     Ok(())
+}
+
+// The answer of a run that is given no log, so that no log is full.
+fn print_run(out: &mut impl Write, run: Result<Run, Refusal>) -> io::Result<()> {
+    let fields = run.map(|run| {
+        let totals = run.totals;
+        [totals.reductions, totals.mwh.0, totals.worth.0]
+    });
+    print_answer(out, fields)
 }
 
 // The places of the marked trades.
-fn print_marks(out: &mut impl Write, marks: [bool; 256]) -> io::Result<()> {
-    let mut i = 0;
-    while i < 256 {
-        print_mark(out, i, marks[i])?;
-        i += 1;
+fn print_marks(out: &mut impl Write, marks: &[bool; 256]) -> io::Result<()> {
+    for (i, marked) in marks.iter().enumerate() {
+        if *marked {
+            day_print::number(out, i as u64)?;
+        }
     }
     Ok(())
 }
 
-fn print_cancellation(out: &mut impl Write, answer: CancellationAnswer) -> io::Result<()> {
-    let marks = answer.marks;
-    day_print::number(out, answer.number as u64)?;
-    day_print::number(out, answer.excess.0)?;
-    day_print::number(out, answer.tries as u64)?;
-    day_print::number(out, answer.complete as u64)?;
-    print_marks(out, marks)
+// A whole cancellation: its answer, and the places of the marked trades.
+fn print_cancellation(out: &mut impl Write, book: &[u8], id: u32, tries: u32) -> io::Result<()> {
+    match daybook::cancellation(book, Party::Operator, None, id, tries) {
+        Ok(found) => {
+            let fields = [found.excess.0, found.tries as u64, found.complete as u64];
+            print_answer(out, Ok(fields))?;
+            print_marks(out, &found.marks)
+        }
+        Err(refusal) => print_answer::<3>(out, Err(refusal)),
+    }
 }
 
 // The record of a user, nothing where there is none.
 fn print_record(out: &mut impl Write, book: &[u8], id: u32) -> io::Result<()> {
-    let mut refusal = 0;
-    numbers::print_bytes(
-        out,
-        daybook::show(book, OPERATOR, false, b"", id, &mut refusal),
-    )
+    match daybook::show(book, Party::Operator, None, id) {
+        Ok(part) => numbers::print_bytes(out, part),
+        Err(_) => numbers::print_bytes(out, b""),
+    }
 }
 
-// A call that changes no book.
-fn ask(out: &mut impl Write, kind: u8, book: &[u8], id: u32, tries: u32) -> io::Result<()> {
-    if kind == 1 {
-        return print_level(out, daybook::morning_level(book, OPERATOR, false, b"", id));
-    }
-    if kind == 2 {
-        return print_level(
-            out,
-            daybook::afternoon_level(book, OPERATOR, false, b"", id),
-        );
-    }
-    if kind == 7 {
-        return print_cancellation(
-            out,
-            daybook::cancellation(book, OPERATOR, false, b"", id, tries),
-        );
-    }
-    let answer = daybook::warning(book, OPERATOR, false, b"", id);
-    day_print::number(out, answer.number as u64)?;
-    day_print::number(out, answer.warned as u64)
+// What a call of the file is, by its code there.
+#[derive(Clone, Copy)]
+enum Kind {
+    Posting,
+    MorningLevel,
+    AfternoonLevel,
+    Warning,
+    MorningCall,
+    AfternoonCall,
+    Run,
+    Cancellation,
+    Told,
 }
 
-// A call that may change the book.
-fn change(
-    out: &mut impl Write,
-    kind: u8,
-    book: &mut [u8],
-    id: u32,
-    area: u32,
-    bits: u64,
-) -> io::Result<()> {
-    let mut log = [0u8; 1];
-    if kind == 4 {
-        return print_call(
-            out,
-            daybook::morning_call(book, OPERATOR, false, b"", false, &mut log, id),
-        );
+impl From<u8> for Kind {
+    fn from(code: u8) -> Kind {
+        match code {
+            1 => Kind::MorningLevel,
+            2 => Kind::AfternoonLevel,
+            3 => Kind::Warning,
+            4 => Kind::MorningCall,
+            5 => Kind::AfternoonCall,
+            6 => Kind::Run,
+            7 => Kind::Cancellation,
+            8 => Kind::Told,
+            _ => Kind::Posting,
+        }
     }
-    if kind == 5 {
-        return print_call(
-            out,
-            daybook::afternoon_call(book, OPERATOR, false, b"", false, &mut log, id),
-        );
-    }
-    if kind == 6 {
-        return print_run(
-            out,
-            daybook::run(book, OPERATOR, false, b"", false, &mut log),
-        );
-    }
-    let amount = numbers::amount_of(bits);
-    let number = daybook::posting(
-        book, OPERATOR, false, b"", false, &mut log, id, area, amount,
-    );
-    day_print::number(out, number as u64)
 }
 
-// A call: 0 posting, 1 morning level, 2 afternoon level, 3 warning, 4 morning call, 5 afternoon call, 6 run, 7 whole cancellation, whose
-// number of tries stands in the place of the area, 8 what a party is told, which stands in the place of the amount.
+// A call: one that may change the book prints the user's record, too. The number of tries of a whole cancellation stands in the place of
+// the area, and the party that is told in that of the amount.
 fn call(
     out: &mut impl Write,
-    kind: u8,
+    kind: Kind,
     book: &mut [u8],
     id: u32,
     area: u32,
     bits: u64,
 ) -> io::Result<()> {
-    if kind == 8 {
-        return told::tell(out, book, bits, id);
+    let party = Party::Operator;
+    let mut log = [0u8; 1];
+    match kind {
+        Kind::Told => return told::tell(out, book, Party::from(bits), id),
+        Kind::Cancellation => return print_cancellation(out, book, id, area),
+        Kind::MorningLevel => {
+            let level = daybook::morning_level(book, party, None, id);
+            return print_answer(out, level.map(|level| [level.0]));
+        }
+        Kind::AfternoonLevel => {
+            let level = daybook::afternoon_level(book, party, None, id);
+            return print_answer(out, level.map(|level| [level.0]));
+        }
+        Kind::Warning => {
+            let warned = daybook::warning(book, party, None, id);
+            return print_answer(out, warned.map(|warned| [warned as u64]));
+        }
+        Kind::MorningCall => {
+            let call = daybook::morning_call(book, party, None, false, &mut log, id);
+            print_answer(out, call.map(|call| [call.level.0, call.added.0]))?;
+        }
+        Kind::AfternoonCall => {
+            let call = daybook::afternoon_call(book, party, None, false, &mut log, id);
+            print_answer(out, call.map(|call| [call.level.0, call.added.0]))?;
+        }
+        Kind::Run => print_run(out, daybook::run(book, party, None, false, &mut log))?,
+        Kind::Posting => {
+            let amount = numbers::amount_of(bits);
+            let posted = daybook::posting(book, party, None, false, &mut log, id, area, amount);
+            print_answer(out, posted.map(|_| []))?;
+        }
     }
-    if ((1 <= kind) & (kind <= 3)) | (kind == 7) {
-        return ask(out, kind, book, id, area);
-    }
-    change(out, kind, book, id, area, bits)?;
     print_record(out, book, id)
 }
 
@@ -163,15 +157,15 @@ fn call(
 fn make(
     out: &mut impl Write,
     place: u64,
-    kind: u8,
+    code: u8,
     book: &mut [u8],
     id: u32,
     area: u32,
     bits: u64,
 ) -> io::Result<()> {
     write!(out, "{place}")?;
-    day_print::number(out, kind as u64)?;
-    call(out, kind, book, id, area, bits)?;
+    day_print::number(out, code as u64)?;
+    call(out, Kind::from(code), book, id, area, bits)?;
     out.write_all(b"\n")
 }
 
@@ -179,6 +173,7 @@ fn make(
 fn make_calls(out: &mut impl Write, file: &mut [u8]) -> io::Result<()> {
     let mut at = 0;
     let mut place = 0;
+    // From call to call, each as long as the length of its book says.
     while 19 <= file.len() - at {
         let kind = fields::get_u8(file, at);
         let id = fields::get_u32(file, at + 1);
@@ -197,77 +192,59 @@ fn make_calls(out: &mut impl Write, file: &mut [u8]) -> io::Result<()> {
     Ok(())
 }
 
-// What a reduction answered.
-fn print_answer(out: &mut impl Write, answer: ReductionAnswer) -> io::Result<()> {
-    let mwh = answer.mwh;
-    let worth = answer.worth;
-    let target = answer.target;
-    let short = answer.short;
-    let over = answer.over;
-    day_print::number(out, answer.number as u64)?;
-    day_print::number(out, mwh.0)?;
-    day_print::number(out, worth.0)?;
-    day_print::number(out, target.0)?;
-    day_print::number(out, short.0)?;
-    day_print::number(out, over.0)
-}
-
 // What stands of every trade, in a line.
-fn print_standing(out: &mut impl Write, b: Book) -> io::Result<()>
-    requires { b.trade_count ≤ 256 }
+fn print_standing(out: &mut impl Write, b: &Book) -> io::Result<()>
+    requires { b.now.trade_count ≤ 256 }
 {
-    let n = b.trade_count as usize;
-    let trades = b.trades;
-    let mut i = 0;
     out.write_all(b"standing")?;
-    while i < n {
-        let trade = trades[i];
+    for trade in &b.trades[..b.trade_count as usize] {
         day_print::number(out, trade.standing.0 as u64)?;
-        i += 1;
     }
     out.write_all(b"\n")
 }
 
 // The id and the positions of a user, in a line.
-fn print_user(out: &mut impl Write, user: User) -> io::Result<()> {
-    let position = user.position;
+fn print_user(out: &mut impl Write, user: &User) -> io::Result<()> {
     let id = user.id;
     write!(out, "{id}")?;
-    day_print::nets(out, position)?;
+    day_print::nets(out, user.position)?;
     out.write_all(b"\n")
 }
 
 // Every user.
-fn print_users(out: &mut impl Write, b: Book) -> io::Result<()>
-    requires { b.user_count ≤ 64 }
+fn print_users(out: &mut impl Write, b: &Book) -> io::Result<()>
+    requires { b.now.user_count ≤ 64 }
 {
-    let n = b.user_count as usize;
-    let users = b.users;
-    let mut i = 0;
-    while i < n {
-        let user = users[i];
-        print_user(out, user.user)?;
-        i += 1;
+    for user in &b.users[..b.user_count as usize] {
+        print_user(out, &user.user)?;
     }
     Ok(())
 }
 
 // The trades and the users of a book in bytes; none where it is refused.
 fn print_book(out: &mut impl Write, bytes: &[u8]) -> io::Result<()> {
-    let opening = book_value::open(bytes);
-    let b = opening.book;
-    print_standing(out, b)?;
-    print_users(out, b)
+    match book_value::open(bytes) {
+        Ok(b) => {
+            print_standing(out, &b)?;
+            print_users(out, &b)
+        }
+        Err(_) => out.write_all(b"standing\n"),
+    }
 }
 
 // The reduction at a place of the file.
 fn reduce(out: &mut impl Write, place: u64, id: u32, book: &mut [u8]) -> io::Result<()> {
     write!(out, "{place}")?;
     let mut log = [0u8; 1];
-    print_answer(
-        out,
-        daybook::reduction(book, OPERATOR, false, b"", false, &mut log, id),
-    )?;
+    let reduced = daybook::reduction(book, Party::Operator, None, false, &mut log, id);
+    let fields = reduced.map(|cut| [
+        cut.mwh.0,
+        cut.worth.0,
+        cut.target.0,
+        cut.short.0,
+        cut.over.0,
+    ]);
+    print_answer(out, fields)?;
     out.write_all(b"\n")?;
     print_book(out, book)
 }
@@ -287,10 +264,7 @@ fn part_of(start: usize, end: usize, last: Part) -> Part
     if start == end {
         return last;
     }
-    Part {
-        start: start,
-        end: end,
-    }
+    Part { start, end }
 }
 
 // Makes every reduction of the file `reductions`, up to the last that is whole.
@@ -298,6 +272,7 @@ fn make_reductions(out: &mut impl Write, file: &mut [u8]) -> io::Result<()> {
     let mut at = 0;
     let mut place = 0;
     let mut part = Part { start: 0, end: 0 };
+    // From reduction to reduction, each as long as the length of its book says.
     while 6 <= file.len() - at {
         let id = fields::get_u32(file, at);
         let len = fields::get_u16(file, at + 4) as usize;
@@ -307,41 +282,19 @@ fn make_reductions(out: &mut impl Write, file: &mut [u8]) -> io::Result<()> {
         }
         at = own + len;
         part = part_of(own, at, part);
-        let start = part.start;
-        let end = part.end;
-        reduce(out, place, id, &mut file[start..end])?;
+        reduce(out, place, id, &mut file[part.start..part.end])?;
         place += 1;
     }
     Ok(())
 }
 
-// What is made of the bytes of a file.
-#[derive(Clone, Copy)]
-enum Kind {
-    Calls,
-    Reductions,
-    Lists,
-}
-
-// The calls of the file of a name.
-fn make_file(
-    rt: &(impl Files + Eprint),
-    out: &mut impl Write,
-    name: &str,
-    kind: Kind,
-) -> io::Result<()> {
-    let mut file = [0u8; 65536];
-    let n = day_print::read_file(rt, name, &mut file)?;
-    match kind {
-        Kind::Calls => make_calls(out, &mut file[..n]),
-        Kind::Reductions => make_reductions(out, &mut file[..n]),
-        Kind::Lists => lists::make_lists(out, &mut file[..n]),
-    }
-}
-
 fn main(rt: HostRuntime) -> io::Result<()> {
     let mut out = io::writer(&rt);
-    make_file(&rt, &mut out, "calls", Kind::Calls)?;
-    make_file(&rt, &mut out, "reductions", Kind::Reductions)?;
-    make_file(&rt, &mut out, "lists", Kind::Lists)
+    let mut file = [0u8; 65536];
+    let n = day_print::read_file(&rt, "calls", &mut file)?;
+    make_calls(&mut out, &mut file[..n])?;
+    let n = day_print::read_file(&rt, "reductions", &mut file)?;
+    make_reductions(&mut out, &mut file[..n])?;
+    let n = day_print::read_file(&rt, "lists", &mut file)?;
+    lists::make_lists(&mut out, &mut file[..n])
 }

@@ -17,26 +17,16 @@ pub fn amount_of(bits: u64) -> i64 {
 // A space and bytes in hexadecimal.
 pub fn print_bytes(out: &mut impl Write, part: &[u8]) -> io::Result<()> {
     out.write_all(b" ")?;
-    let mut i = 0;
-    while i < part.len() {
-        let byte = fields::get_u8(part, i);
+    for byte in part {
         write!(out, "{byte:02x}")?;
-        i += 1;
     }
     Ok(())
 }
 
-// A space and a number.
-fn print_number(out: &mut impl Write, number: u32) -> io::Result<()> {
-    day_print::number(out, number as u64)
-}
-
 // Numbers, a space before each.
 pub fn print_numbers(out: &mut impl Write, numbers: &[u32]) -> io::Result<()> {
-    let mut i = 0;
-    while i < numbers.len() {
-        print_number(out, numbers[i])?;
-        i += 1;
+    for number in numbers {
+        day_print::number(out, *number as u64)?;
     }
     Ok(())
 }

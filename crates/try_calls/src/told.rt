@@ -1,51 +1,45 @@
 // What a party is told of a user: the flag, the trades that the user may see, and its record.
 
+use call_rights::Party;
+use refusals::Refusal;
 use std::io;
 use std::io::Write;
 
-// The trade of an ordinal, in hexadecimal.
+// Bytes that are handed out, in hexadecimal, none where they are refused, and the number.
+fn print_part(out: &mut impl Write, part: Result<&[u8], Refusal>) -> io::Result<()> {
+    let (bytes, number): (&[u8], u32) = match part {
+        Ok(bytes) => (bytes, 0),
+        Err(refusal) => (b"", refusal.number()),
+    };
+    crate::numbers::print_bytes(out, bytes)?;
+    day_print::number(out, number as u64)
+}
+
+// The trade of an ordinal; past the last no bytes.
 fn print_trade(
     out: &mut impl Write,
     book: &[u8],
-    party: u64,
+    party: Party,
     id: u32,
     ordinal: u32,
 ) -> io::Result<()> {
-    let mut number = 0;
-    crate::numbers::print_bytes(
-        out,
-        daybook::trade(book, party, false, b"", id, ordinal, &mut number),
-    )?;
-    day_print::number(out, number as u64)
-}
-
-// The trades up to an ordinal.
-fn print_trades(
-    out: &mut impl Write,
-    book: &[u8],
-    party: u64,
-    id: u32,
-    count: u32,
-) -> io::Result<()> {
-    let mut i = 0;
-    while i < count {
-        print_trade(out, book, party, id, i)?;
-        i += 1;
+    match daybook::trade(book, party, None, id, ordinal) {
+        Ok(Some(part)) => print_part(out, Ok(part)),
+        Ok(None) => print_part(out, Ok(b"")),
+        Err(refusal) => print_part(out, Err(refusal)),
     }
-    Ok(())
 }
 
 // The number of the flag and the flag, the number of the count and the count, each trade and its number, past the last too, and the record.
-pub fn tell(out: &mut impl Write, book: &[u8], party: u64, id: u32) -> io::Result<()> {
-    let flag = daybook::flag(book, party, false, b"", id);
-    day_print::number(out, flag.number as u64)?;
-    day_print::number(out, flag.flagged as u64)?;
-    let told = daybook::trade_count(book, party, false, b"", id);
-    day_print::number(out, told.number as u64)?;
-    day_print::number(out, told.count as u64)?;
-    print_trades(out, book, party, id, told.count)?;
-    print_trade(out, book, party, id, told.count)?;
-    let mut number = 0;
-    crate::numbers::print_bytes(out, daybook::show(book, party, false, b"", id, &mut number))?;
-    day_print::number(out, number as u64)
+pub fn tell(out: &mut impl Write, book: &[u8], party: Party, id: u32) -> io::Result<()> {
+    let flagged = daybook::flag(book, party, None, id);
+    crate::print_answer(out, flagged.map(|flagged| [flagged as u64]))?;
+    let told = daybook::trade_count(book, party, None, id);
+    crate::print_answer(out, told.map(|count| [count as u64]))?;
+    let count = told.unwrap_or(0);
+    for ordinal in 0..count {
+        print_trade(out, book, party, id, ordinal)?;
+    }
+    print_trade(out, book, party, id, count)?;
+    print_part(out, daybook::show(book, party, None, id))
 }

@@ -17,6 +17,7 @@ fn print_day(out: &mut impl Write, place: u16, book: &mut [u8]) -> io::Result<()
 // The day of every book of a file, up to the last that is whole.
 fn print_days(out: &mut impl Write, file: &mut [u8]) -> io::Result<()> {
     let mut at = 0;
+    // From book to book, each as long as its own length says.
     while 4 <= file.len() - at {
         let place = fields::get_u16(file, at);
         let len = fields::get_u16(file, at + 2) as usize;

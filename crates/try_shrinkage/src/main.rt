@@ -13,23 +13,28 @@ fn number(out: &mut impl Write, n: u64) -> io::Result<()> {
     write!(out, " {n}")
 }
 
-// The return for balances: number, half, odd kWh and rest, and the shares and the remainders of two users by their places.
+// The return for balances: number, which is 0 where it is not refused, half, odd kWh and rest, and the shares and the remainders of two
+// users by their places.
 fn returned(out: &mut impl Write, balances: &[i64], first: usize, second: usize) -> io::Result<()>
     requires { (first < 64) × (second < 64) }
 {
-    let r = shrinkage::shrinkage_return(balances);
-    let shares = r.shares;
-    let remainders = r.remainders;
-    out.write_all(b"return")?;
-    number(out, r.number as u64)?;
-    number(out, r.half.0)?;
-    number(out, r.odd.0)?;
-    number(out, r.rest.0)?;
-    number(out, shares[first].0)?;
-    number(out, remainders[first])?;
-    number(out, shares[second].0)?;
-    number(out, remainders[second])?;
-    out.write_all(b"\n")
+    match shrinkage::shrinkage_return(balances) {
+        Ok(r) => {
+            let one = r.shares[first].0;
+            let other = r.shares[second].0;
+            let one_left = r.remainders[first];
+            let other_left = r.remainders[second];
+            let (half, odd, rest) = (r.half.0, r.odd.0, r.rest.0);
+            writeln!(
+                out,
+                "return 0 {half} {odd} {rest} {one} {one_left} {other} {other_left}"
+            )
+        }
+        Err(refusal) => {
+            let number = refusal.number();
+            writeln!(out, "return {number} 0 0 0 0 0 0 0")
+        }
+    }
 }
 
 // A share over 30 days: the first day, two days in the middle, and the last.

@@ -2,20 +2,16 @@
 use crate::text;
 use std::io;
 use std::io::Write;
-use units::{Area, Balance, Flow, Net, Posted, Prices};
+use units::{Area, Balance, Flow, Net, Prices};
 
 // An energy with its sign.
 fn energy(out: &mut impl Write, z: Net) -> io::Result<()> {
-    let long = z.long();
-    let short = z.short();
-    text::signed(out, long.0, short.0)
+    text::signed(out, z.long().0, z.short().0)
 }
 
 // Money with its sign.
 fn money(out: &mut impl Write, z: Balance) -> io::Result<()> {
-    let owed = z.owed();
-    let credit = z.credit();
-    text::signed(out, owed.0, credit.0)
+    text::signed(out, z.owed().0, z.credit().0)
 }
 
 // 32 bits, the energy that they stand for, its bits again, and whether it is within the range of a physical entry.
@@ -44,14 +40,12 @@ fn balance(out: &mut impl Write, bits: u64) -> io::Result<()> {
 fn posting(out: &mut impl Write, bits: u32, amount: i64) -> io::Result<()> {
     let old = Net::of_bits(bits);
     let flow = Flow::of(amount);
-    let inflow = flow.inflow;
-    let outflow = flow.outflow;
-    let posted = Posted::of(old, amount);
+    let posted = old.posted(amount);
     text::write(out, b"posting")?;
     energy(out, old)?;
-    text::signed(out, inflow.0, outflow.0)?;
-    text::answer(out, posted.accepted)?;
-    energy(out, posted.entry)?;
+    text::signed(out, flow.inflow.0, flow.outflow.0)?;
+    text::answer(out, posted.is_some())?;
+    energy(out, posted.unwrap_or(old))?;
     text::end(out)
 }
 

@@ -10,14 +10,12 @@ fn days_found(year: u32, month: u32) -> u32
     requires { (year ≤ 9999) × (month ≤ 99) }
 {
     let first = year * 10000 + month * 100;
-    let mut days = 0;
-    while days < 99 {
+    for days in 0..99 {
         if !calendar::is_real_day(first + days + 1) {
             return days;
         }
-        days += 1;
     }
-    days
+    99
 }
 
 // The length of each month of a year.
@@ -26,10 +24,8 @@ fn year(out: &mut impl Write, year: u32) -> io::Result<()>
 {
     text::write(out, b"year")?;
     text::number(out, year as u64)?;
-    let mut month = 1;
-    while month <= 12 {
+    for month in 1..=12 {
         text::number(out, days_found(year, month) as u64)?;
-        month += 1;
     }
     text::end(out)
 }

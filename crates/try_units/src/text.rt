@@ -47,10 +47,8 @@ fn byte(out: &mut impl Write, b: u8) -> io::Result<()> {
 // A space, and bytes in hexadecimal.
 pub fn bytes(out: &mut impl Write, s: &[u8]) -> io::Result<()> {
     write(out, b" ")?;
-    let mut i = 0;
-    while i < s.len() {
-        byte(out, s[i])?;
-        i += 1;
+    for b in s {
+        byte(out, *b)?;
     }
     Ok(())
 }

@@ -1,2 +1,0 @@
--- Laws of a book that was opened.
-pub mod Opened

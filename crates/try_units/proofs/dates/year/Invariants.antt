@@ -1,9 +1,0 @@
--- `try_units::dates::year` ends: `month` counts up to 13.
-use Rattle.std.proofs.Common.{◌≤◌, ◌-◌}
-use Rattle.try_units.proofs.dates.year.Given as goal
-
-abbrev pub invariant-loop-month : goal.invariant-loop-month
-invariant-loop-month g l = l.month ≤ 13
-
-abbrev pub decreases-loop-month : goal.decreases-loop-month
-decreases-loop-month g l = 13 - l.month

@@ -1,9 +1,0 @@
--- `try_units::text::bytes` is safe and ends: `i` counts up to the length.
-use Rattle.std.proofs.Common.{◌≤◌, ◌-◌, length}
-use Rattle.try_units.proofs.text.bytes.Given as goal
-
-abbrev pub invariant-loop-i : goal.invariant-loop-i
-invariant-loop-i g l = l.i ≤ length l.s
-
-abbrev pub decreases-loop-i : goal.decreases-loop-i
-decreases-loop-i g l = length l.s - l.i
