@@ -15,10 +15,10 @@ OF_A_FUNCTION = {"Answers.antt", "Invariants.antt", "Proof.antt"}
 
 
 def hold_lengths(path, most, contracts):
-    """Is no line longer than `most`? Contracts, which may have several lines, are passed over where `contracts` says so."""
+    """Is no line longer than `most`? Contracts, which may have several lines, and the definitions that a proof may look into are passed over where `contracts` says so."""
     depth = 0
     for number, line in enumerate(text_of(path).split("\n"), 1):
-        if contracts and (depth > 0 or re.match(r"\s*(?:requires|ensures)\b", line)):
+        if contracts and (depth > 0 or re.match(r"\s*(?:(?:requires|ensures)\b|#\[tactic\()", line)):
             depth += line.count("{") - line.count("}")
         elif len(line) > most:
             fail(f"{path}:{number}", f"{len(line)} characters", f"{most} are the most here")

@@ -112,5 +112,5 @@ def parts(name):
     return [p[name] for p in (crates, packages) if name in p]
 
 # Notes name what went.
-NOTES = ("docs/landings/", "docs/PORT.md", "PORTING-LEFT.md")
+NOTES = ("docs/landings/", "docs/PORT.md", "docs/DESIGN-PASS.md", "PORTING-LEFT.md")
 documents = sorted(f for f in files if f.endswith(".md") and not f.startswith(NOTES))
