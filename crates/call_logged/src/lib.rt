@@ -2,7 +2,7 @@
 // the withdrawal of the last one noted. The log then holds the book as the call leaves it.
 #![tactic(auto)]
 
-ghost use Rattle.std.specs.Prelude.{◌≡◌, suc, IfOk, Ok, T};
+ghost use Rattle.std.specs.Prelude.{◌≡◌, suc, is_ok, IfOk, Ok, T};
 ghost use Rattle.refusals.specs.Refusal.{number_in};
 ghost use Rattle.store.specs.Asked.{figures_in};
 ghost use Rattle.book_parties.specs.Ids.{BookIn};
@@ -26,6 +26,7 @@ use units::Limits;
 
 // Runs the book that the bytes hold, in the bytes, after the opening questions, whose refusal or figures are given with the places of
 // the trades' parties and the sums of the users, and notes each reduction in the log. It stops where one more is due and the log is full.
+// It is refused only where the opening questions were: that a log is full is said beside the totals, before the first reduction too.
 pub fn run(
     book: &mut [u8],
     opened: Result<Limits, Refusal>,
@@ -36,7 +37,8 @@ pub fn run(
 ) -> Result<Run, Refusal>
     requires opened { IfOk opened (λ limits. Opened (as_limits limits) book.old sellers.now buyers.now sums.old) }
     requires t { IfOk opened (λ limits. T (log_fits log.old book.old)) }
-    ensures { GivesLogged (logged_after as_bytes (number_in opened) (figures_in opened) log.old book.old run_call) (answer_of result) book.new log.new }
+    ensures gives { GivesLogged (logged_after as_bytes (number_in opened) (figures_in opened) log.old book.old run_call) (answer_of result) book.new log.new }
+    ensures carried_out { is_ok result ≡ is_ok opened }
 {
     let limits = opened?;
     let day = Day {

@@ -12,7 +12,7 @@ ghost use Rattle.call_rights.specs.Acting.{as_party, as_matter};
 use refusals::Refusal;
 
 // The number of the operator where a party is a number: one that no id reaches.
-const OPERATOR: u64 = 4294967296;
+pub const OPERATOR: u64 = 4294967296;
 
 // Who makes a call: the operator, or a shipper by its id. The id may be any number: one that is no shipper's in the book may do nothing.
 #[derive(Clone, Copy, Debug, PartialEq, Eq)]

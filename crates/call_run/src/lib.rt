@@ -1,7 +1,7 @@
 // The run of a lent book in bytes: while some user that is short of cover has an eligible trade, the one of the lowest id is reduced.
 #![tactic(auto)]
 
-ghost use Rattle.std.specs.Prelude.{IfOk};
+ghost use Rattle.std.specs.Prelude.{◌≡◌, is_ok, IfOk};
 ghost use Rattle.refusals.specs.Refusal.{number_in};
 ghost use Rattle.store.specs.Asked.{figures_in};
 ghost use Rattle.book_format.specs.After.{CalledAfter};
@@ -16,7 +16,7 @@ use risk_user::Day;
 use units::Limits;
 
 // Runs the book that the bytes hold, in the bytes, after the opening questions, whose refusal or figures are given with the places of
-// the trades' parties and the sums of the users.
+// the trades' parties and the sums of the users. It is refused only where they were.
 pub fn run(
     book: &mut [u8],
     opened: Result<Limits, Refusal>,
@@ -25,7 +25,8 @@ pub fn run(
     sums: &mut [u32; 768],
 ) -> Result<Run, Refusal>
     requires { IfOk opened (λ limits. Opened (as_limits limits) book.old sellers.now buyers.now sums.old) }
-    ensures { CalledAfter (number_in opened) (figures_in opened) book.old run_call (answer_of result) book.new }
+    ensures called { CalledAfter (number_in opened) (figures_in opened) book.old run_call (answer_of result) book.new }
+    ensures carried_out { is_ok result ≡ is_ok opened }
 {
     let limits = opened?;
     let day = Day {

@@ -1,6 +1,6 @@
 -- The public calls with a lent log, given or not, from the inner calls. Assumes nothing.
 use Rattle.std.specs.Prelude.{Ok, Err, IfOk, MatchResult, Result, is_ok}
-use Rattle.base.specs.Basics.{◌≡◌, refl, sym, ap, subst, ◌∙◌, false≢true, Bool, true, false, List, ℕ, zero, suc, arith, T, length}
+use Rattle.base.specs.Basics.{◌≡◌, refl, sym, ap, subst, ◌∙◌, eqb, ne_eqb, false≢true, Bool, true, false, List, ℕ, zero, suc, arith, T, length}
 use Rattle.book_format.proofs.Passed.{passed}
 use Rattle.book_format.specs.After.{CalledAfter}
 use Rattle.book_format.specs.Questions.{book_number}
@@ -21,7 +21,7 @@ use Rattle.refusals.specs.declared.Refusal.{Refusal}
 use Rattle.requests.specs.Carried.{Admitted}
 use Rattle.requests.proofs.Logged.{act_lent, logged_call, logged_without}
 use Rattle.requests.specs.Logged.{AdmittedWith, GivesLogged, LoggedAfter}
-use Rattle.requests.specs.Request.{call, Setting, as_bytes, logged_after}
+use Rattle.requests.specs.Request.{call, opening_with, Setting, as_bytes, logged_after}
 use Rattle.rules.specs.Calls.{Answer, Call, call_after, only, unchanged}
 use Rattle.rules.specs.Levels.{Limits}
 use Rattle.rules.specs.Questions.{after}
@@ -66,6 +66,12 @@ pub admitted_log : {n : ℕ} {g : Setting} {s l : List ℕ} (lent : Bool) (opene
     → LogAsked (number_in opened) lent l s (number_in asked) → IfOk asked (λ limits. opened ≡ Ok limits) → AdmittedWith n g (given lent l) s (number_in asked) (figures_in asked)
 admitted_log lent opened (Ok limits) a k e = rw e at (admitted_with lent a k)
 admitted_log lent opened (Err refusal) a k e = record { asked = (admitted_with lent a k).asked; taken = λ z. absurd (refused-nonzero refusal z) }
+
+-- a call that it hands on passed every opening question
+pub opened_by : {n : ℕ} {g : Setting} {s l : List ℕ} (lent : Bool) (asked : Result code.Limits Refusal) → AdmittedWith n g (given lent l) s (number_in asked) (figures_in asked)
+    → is_ok asked ≡ eqb (opening_with n g (given lent l) s) 0
+opened_by {n} {g} {s} {l} lent (Ok limits) d = rw sym d.asked
+opened_by {n} {g} {s} {l} lent (Err refusal) d = rw sym d.asked (sym (ne_eqb (number_in (Err {A = code.Limits} refusal)) 0 (refused-nonzero refusal)))
 
 -- a log that it lets pass fits the book
 pub log_fits_in : {opened : ℕ} {lent : Bool} {l s : List ℕ} (asked : Result code.Limits Refusal) → LogAsked opened lent l s (number_in asked) → IfOk asked (λ limits. lent ≡ true → T (log_fits l s))

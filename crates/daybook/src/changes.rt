@@ -1,16 +1,16 @@
 // The public calls that may change a lent book, by an acting party, each with a store of parameter sets or none and a log of the book's
 // reductions or none: all of them are the operator's. The start of a log is asked of no party.
-ghost use Rattle.std.specs.Prelude.{◌≡◌};
+ghost use Rattle.std.specs.Prelude.{◌≡◌, is_ok};
 ghost use Rattle.std.proofs.Math.Option.{some};
 ghost use Rattle.rules.specs.Calls.{only, morning_call_of, afternoon_call_of};
 ghost use Rattle.refusals.specs.Refusal.{number_in};
 ghost use Rattle.store.specs.Asked.{lent};
 ghost use Rattle.store.specs.Store.{given};
-ghost use Rattle.requests.specs.Request.{act_of};
+ghost use Rattle.requests.specs.Request.{act_of, setting_of};
 ghost use Rattle.rights.specs.Logged.{LoggedBy, PostedBy};
 ghost use Rattle.call_rights.specs.Acting.{as_party};
 ghost use Rattle.log_format.specs.Fits.{start_number, started};
-ghost use Rattle.daybook.specs.Acts.{called, withdrawing};
+ghost use Rattle.daybook.specs.Acts.{called, is_opened, withdrawing};
 ghost use Rattle.call_answers.specs.Withdrawal.{withdrawal_of};
 ghost use Rattle.call_posting.specs.Posting.{posting_of};
 ghost use Rattle.call_guarantee.specs.Times.{call_of};
@@ -156,7 +156,7 @@ pub fn reduction(
 }
 
 // Reduces the user of the lowest id among those short of cover with an eligible trade, until there is none. With a log that becomes full
-// while one more reduction is due it stops, keeps its cuts and gives their totals with that.
+// while one more reduction is due it stops, keeps its cuts and gives their totals with that: only the opening questions refuse a run.
 pub fn run(
     book: &mut [u8],
     party: Party,
@@ -164,7 +164,8 @@ pub fn run(
     with_log: bool,
     log: &mut [u8],
 ) -> Result<Run, Refusal>
-    ensures { LoggedBy (as_party party) (act_of (lent store.entry) (given with_log log.old) (called run_call)) book.old (running.answer_of result) book.new log.old log.new }
+    ensures logged { LoggedBy (as_party party) (act_of (lent store.entry) (given with_log log.old) (called run_call)) book.old (running.answer_of result) book.new log.old log.new }
+    ensures carried_out { is_ok result ≡ is_opened (as_party party) (setting_of (lent store.entry)) (given with_log log.old) book.old }
 {
     let mut sellers = [0u8; 256];
     let mut buyers = [0u8; 256];

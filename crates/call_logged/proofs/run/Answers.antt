@@ -34,8 +34,8 @@ count : (c : goal.After-get_u32-count) → c.get_u32-count.result ≡ count_of_e
 unfolding count_of_entries
 count c = c.get_u32-count.ensures
 
-pub returns-in_err-limits : goal.returns-in_err-limits
-returns-in_err-limits c = let a = c.args in let e = c.in_err-limits.field-0.0 in
+pub returns-in_err-limits-clause-gives : goal.returns-in_err-limits-clause-gives
+returns-in_err-limits-clause-gives c = let a = c.args in let e = c.in_err-limits.field-0.0 in
     rw (c.in_err-limits.was, handed_on c.from_residual.ensures.1) (logged_refused today a.book.now a.log.now run_call (number_of e) (refused-nonzero e) refl)
 
 pub read_prices-requires : goal.read_prices-requires
@@ -67,8 +67,8 @@ overflow_cast-many c = omega (arith, c.run_book-noted.ensures.few)
 pub seal-requires : goal.seal-requires
 seal-requires c = (c.run_book-noted.ensures.size ∙ (facts (goal.at.seal-requires c).In_ok-limits).size, omega (arith, c.run_book-noted.auto.book, (facts (goal.at.seal-requires c).In_ok-limits).room))
 
-pub returns : goal.returns
-returns c = let a = c.args in
+pub returns-clause-gives : goal.returns-clause-gives
+returns-clause-gives c = let a = c.args in
     rw c.in_ok-limits.was
-    (run_logged (as_limits c.in_ok-limits.limits) a.book.now a.log.now (λ j. (c.slice_known-2-1.given j).fits) (few (goal.at.returns c).In_ok-limits) (fits (goal.at.returns c).In_ok-limits) refl
-    (count (goal.at.returns c).After-get_u32-count) c.run_book-noted.ensures c.seal.ensures (run_answer c.run_book-noted.result.totals c.run_book-noted.result.due))
+    (run_logged (as_limits c.in_ok-limits.limits) a.book.now a.log.now (λ j. (c.slice_known-2-1.given j).fits) (few (goal.at.returns-clause-gives c).In_ok-limits) (fits (goal.at.returns-clause-gives c).In_ok-limits) refl
+    (count (goal.at.returns-clause-gives c).After-get_u32-count) c.run_book-noted.ensures c.seal.ensures (run_answer c.run_book-noted.result.totals c.run_book-noted.result.due))

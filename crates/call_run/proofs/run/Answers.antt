@@ -17,8 +17,8 @@ use Rattle.call_run.proofs.run.Goals.{In_ok-limits}
 told : (c : goal.In_ok-limits) → let a = c.args in Opened (as_limits c.in_ok-limits.limits) a.book.now a.sellers.now a.buyers.now a.sums.now
 told c = let a = c.args in IfOk-at_ok (λ limits. Opened (as_limits limits) a.book.now a.sellers.now a.buyers.now a.sums.now) c.in_ok-limits.was c.requires
 
-pub returns-in_err-limits : goal.returns-in_err-limits
-returns-in_err-limits c = let e = c.in_err-limits.field-0.0 in
+pub returns-in_err-limits-clause-called : goal.returns-in_err-limits-clause-called
+returns-in_err-limits-clause-called c = let e = c.in_err-limits.field-0.0 in
     rw (c.in_err-limits.was, handed_on c.from_residual.ensures.1) (run_refused today c.args.book.now (number_of e) (refused-nonzero e) refl)
 
 pub read_prices-requires : goal.read_prices-requires
@@ -33,6 +33,6 @@ unfolding book_of
 run_book-totals-requires c = let e = told (goal.at.run_book-totals-requires c).In_ok-limits in
     record { book_in = e.parties.book; runnable = record { risk = record { opened = e.summed.figures; prices_are = c.read_prices.ensures; sums_are = c.bear.ensures.sums_of }; book = c.bear.ensures.borne_in } }
 
-pub returns : goal.returns
+pub returns-clause-called : goal.returns-clause-called
 unfolding answer_of_run
-returns c = rw c.in_ok-limits.was (run_called (as_limits c.in_ok-limits.limits) c.args.book.now refl c.run_book-totals.ensures refl)
+returns-clause-called c = rw c.in_ok-limits.was (run_called (as_limits c.in_ok-limits.limits) c.args.book.now refl c.run_book-totals.ensures refl)

@@ -2,4 +2,4 @@
 use Rattle.day_print.proofs.run.Goals as goal
 
 pub returns : goal.returns
-returns c = rw (c.open-opened.ensures.asked, c.open-opened.ensures.figures) at c.run.ensures
+returns c = rw (c.open-opened.ensures.asked, c.open-opened.ensures.figures) at c.run.ensures.called
