@@ -16,7 +16,7 @@ use Rattle.log_format.proofs.Read.{fits_facts}
 use Rattle.log_format.specs.Fits.{log_fits}
 use Rattle.log_lent.specs.Lent.{Emptiable}
 use Rattle.refusals.proofs.Numbers.{refused-nonzero}
-use Rattle.refusals.specs.Refusal.{number_in}
+use Rattle.refusals.specs.Refusal.{number_in, number_of}
 use Rattle.refusals.specs.declared.Refusal.{Refusal}
 use Rattle.requests.specs.Carried.{Admitted}
 use Rattle.requests.proofs.Logged.{act_lent, logged_call, logged_without}
@@ -68,10 +68,10 @@ admitted_log lent opened (Ok limits) a k e = rw e at (admitted_with lent a k)
 admitted_log lent opened (Err refusal) a k e = record { asked = (admitted_with lent a k).asked; taken = λ z. absurd (refused-nonzero refusal z) }
 
 -- a call that it hands on passed every opening question
-pub opened_by : {n : ℕ} {g : Setting} {s l : List ℕ} (lent : Bool) (asked : Result code.Limits Refusal) → AdmittedWith n g (given lent l) s (number_in asked) (figures_in asked)
+pub opened_by : {n : ℕ} {g : Setting} {s : List ℕ} (lent : Bool) (l : List ℕ) (asked : Result code.Limits Refusal) → AdmittedWith n g (given lent l) s (number_in asked) (figures_in asked)
     → is_ok asked ≡ eqb (opening_with n g (given lent l) s) 0
-opened_by {n} {g} {s} {l} lent (Ok limits) d = rw sym d.asked
-opened_by {n} {g} {s} {l} lent (Err refusal) d = rw sym d.asked (sym (ne_eqb (number_in (Err {A = code.Limits} refusal)) 0 (refused-nonzero refusal)))
+opened_by lent l (Ok limits) d = ap (λ (number : ℕ). eqb number 0) d.asked
+opened_by lent l (Err refusal) d = sym (ne_eqb (number_of refusal) 0 (refused-nonzero refusal)) ∙ ap (λ (number : ℕ). eqb number 0) d.asked
 
 -- a log that it lets pass fits the book
 pub log_fits_in : {opened : ℕ} {lent : Bool} {l s : List ℕ} (asked : Result code.Limits Refusal) → LogAsked opened lent l s (number_in asked) → IfOk asked (λ limits. lent ≡ true → T (log_fits l s))

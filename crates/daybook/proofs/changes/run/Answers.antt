@@ -29,8 +29,8 @@ returns-else-with_log-clause-logged c = let a = c.args in
 
 pub returns-then-with_log-clause-carried_out : goal.returns-then-with_log-clause-carried_out
 returns-then-with_log-clause-carried_out c = let a = c.args in
-    c.run.ensures.carried_out ∙ opened_by a.with_log _ (admitted_log a.with_log _ _ c.admit_with_sums-admission.ensures.admitted c.by_log-opened.ensures.asked c.by_log-opened.ensures.handed_on)
+    c.run.ensures.carried_out ∙ opened_by a.with_log _ _ (admitted_log a.with_log _ _ c.admit_with_sums-admission.ensures.admitted c.by_log-opened.ensures.asked c.by_log-opened.ensures.handed_on)
 
 pub returns-else-with_log-clause-carried_out : goal.returns-else-with_log-clause-carried_out
 returns-else-with_log-clause-carried_out c = let a = c.args in
-    c.run-else-with_log.ensures.carried_out ∙ opened_by a.with_log _ (admitted_log a.with_log _ _ c.admit_with_sums-admission.ensures.admitted c.by_log-opened.ensures.asked c.by_log-opened.ensures.handed_on)
+    c.run-else-with_log.ensures.carried_out ∙ opened_by a.with_log _ _ (admitted_log a.with_log _ _ c.admit_with_sums-admission.ensures.admitted c.by_log-opened.ensures.asked c.by_log-opened.ensures.handed_on)
