@@ -196,13 +196,9 @@ impl Net {
 // The energy with its sign.
 impl fmt::Display for Net {
     fn fmt<W: fmt::Write>(&self, f: &mut fmt::Formatter<W>) -> fmt::Result {
-        let short = self.short().0;
-        if 0 < short {
-            write!(f, "-{short}")
-        } else {
-            let long = self.long().0;
-            write!(f, "{long}")
-        }
+        // The sign and the digits at once: an output without a buffer writes each piece by itself.
+        let energy = self.0 as i64 - Net::OFFSET as i64;
+        write!(f, "{energy}")
     }
 }
 
