@@ -93,8 +93,7 @@ pub extern "C" fn daybook_raw_trade(
         }
         Err(refusal) => {
             book_image::fill(trade, b"");
-            answer[0] = 0;
-            refusal.number()
+            exports_answers::store_refusal(answer, refusal)
         }
     }
 }

@@ -1,5 +1,5 @@
 -- `daybook_raw_trade` copies the part to the front of 20 zeros and stores its length where both lent parts are of their length, and leaves them as they are where one is not. Assumes nothing.
-use Rattle.base.specs.Basics.{◌∙◌, ap, ap₂, List, [], ◌∷◌, ℕ, length}
+use Rattle.base.specs.Basics.{◌∙◌, ap, ap₂, List, [], ◌∷◌, ℕ, length, replicate}
 use Rattle.book_image.specs.Image.{padded}
 use Rattle.exports_answers.specs.Numbers.{trade_numbers}
 use Rattle.exports.specs.Answers.{is_yes}
@@ -35,5 +35,6 @@ returns-in-Ok-None c = let handed = (rw (c.from.ensures, c.lent_store-store.ensu
 pub returns-in-Err : goal.returns-in-Err
 unfolding is_yes trade_numbers
 returns-in-Err c = let handed = (rw (c.from.ensures, c.lent_store-store.ensures, c.in-Err.is) at c.trade.ensures.handed) in
-    stored_both 20 1 _ _ _ _ _ _ _ _ c.if-trade-ne-TRADE_SIZE.false c.if-answer-ne-TRADE_NUMBERS.false (c.number.ensures.value ∙ handed.asked) (c.fill-in-Err.ensures ∙ ap₂ padded c.if-trade-ne-TRADE_SIZE.false handed.shows)
-    (one_stored c.args.answer.now _ c.if-answer-ne-TRADE_NUMBERS.false ∙ ap (λ (p : List ℕ). length p ∷ []) handed.shows)
+    stored_both 20 1 _ _ _ _ _ _ _ _ c.if-trade-ne-TRADE_SIZE.false c.if-answer-ne-TRADE_NUMBERS.false (c.store_refusal.ensures.number ∙ handed.asked)
+    (c.fill-in-Err.ensures ∙ ap₂ padded c.if-trade-ne-TRADE_SIZE.false handed.shows)
+    (c.store_refusal.ensures.numbers ∙ ap (λ (n : ℕ). replicate n 0) c.if-answer-ne-TRADE_NUMBERS.false ∙ ap (λ (p : List ℕ). length p ∷ []) handed.shows)
