@@ -11,6 +11,6 @@ called c = call c
 abbrev pub withdrawing : Act
 withdrawing = withdrawal
 
--- does no opening question refuse an act of the operator's: those of the book, 26, those of the store and 19 of a log that is given?
+-- does no opening question refuse a call of the operator's that is no list: those of the book, 26, those of the store and 19 of a log that is given?
 abbrev pub is_opened : Party → Setting → Option (List ℕ) → List ℕ → Bool
 is_opened actor g log s = eqb (opening_with (entering_number actor operators s) g log s) 0
