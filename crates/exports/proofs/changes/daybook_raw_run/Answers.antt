@@ -9,4 +9,4 @@ returns-then-answer-ne-RUN_NUMBERS c = not_called 3 c.args.answer.now run_number
 
 pub returns : goal.returns
 unfolding is_yes
-returns c = answered 3 _ run_numbers _ _ _ _ _ _ _ _ _ c.if-answer-ne-RUN_NUMBERS.false (rw (c.from.ensures, c.lent_store-store.ensures) at c.run-run.ensures) c.store_run.ensures.number c.store_run.ensures.numbers
+returns c = answered 3 _ run_numbers _ _ _ _ _ _ _ _ _ c.if-answer-ne-RUN_NUMBERS.false (rw (c.from.ensures, c.lent_store-store.ensures) at c.run-run.ensures.logged) c.store_run.ensures.number c.store_run.ensures.numbers
